@@ -1,0 +1,3 @@
+pub mod Crossings
+pub mod Pairs
+pub mod Windows
