@@ -41,28 +41,28 @@ pub paired-lawful : (f b : Rows) → Lawful f → Lawful b → Lawful (paired f 
 paired-lawful f b p q = record {
   few = omega arith;
   whole = λ r h. ⊎-elim
-    (λ k. rw (lt-ltb r (f .count) k) (p .whole r k))
-    (λ k. rw (le-ltb r (f .count) k) (q .whole (r - f .count) (omega arith)))
-    (cases-lt r (f .count));
+      (λ k. rw (lt-ltb r (f .count) k) (p .whole r k))
+      (λ k. rw (le-ltb r (f .count) k) (q .whole (r - f .count) (omega arith)))
+      (cases-lt r (f .count));
   bytes = λ r i h. ⊎-elim
-    (λ k. rw (lt-ltb r (f .count) k) (p .bytes r i k))
-    (λ k. rw (le-ltb r (f .count) k) (q .bytes (r - f .count) i (omega arith)))
-    (cases-lt r (f .count));
+      (λ k. rw (lt-ltb r (f .count) k) (p .bytes r i k))
+      (λ k. rw (le-ltb r (f .count) k) (q .bytes (r - f .count) i (omega arith)))
+      (cases-lt r (f .count));
   apart = λ r s h k e. ⊎-elim
-    (λ x. ⊎-elim
-        (λ y. let e′ = rw (lt-ltb r (f .count) x, lt-ltb s (f .count) y) at e in p .apart r s x y (omega arith))
-        (λ y. let e′ = rw (lt-ltb r (f .count) x, le-ltb s (f .count) y) at e in absurd (omega arith))
-        (cases-lt s (f .count)))
-    (λ (x : f .count ≤ r). ⊎-elim
-        (λ y. let e′ = rw (le-ltb r (f .count) x, lt-ltb s (f .count) y) at e in absurd (omega arith))
-        (λ (y : f .count ≤ s).
-            let e′ = rw (le-ltb r (f .count) x, le-ltb s (f .count) y) at e in
-            let same = q .apart (r - f .count) (s - f .count) (omega arith) (omega arith) (omega arith) in
-            omega arith)
-        (cases-lt s (f .count)))
-    (cases-lt r (f .count));
+      (λ x. ⊎-elim
+      (λ y. let e′ = rw (lt-ltb r (f .count) x, lt-ltb s (f .count) y) at e in p .apart r s x y (omega arith))
+      (λ y. let e′ = rw (lt-ltb r (f .count) x, le-ltb s (f .count) y) at e in absurd (omega arith))
+      (cases-lt s (f .count)))
+      (λ (x : f .count ≤ r). ⊎-elim
+      (λ y. let e′ = rw (le-ltb r (f .count) x, lt-ltb s (f .count) y) at e in absurd (omega arith))
+      (λ (y : f .count ≤ s).
+      let e′ = rw (le-ltb r (f .count) x, le-ltb s (f .count) y) at e in
+      let same = q .apart (r - f .count) (s - f .count) (omega arith) (omega arith) (omega arith) in
+      omega arith)
+      (cases-lt s (f .count)))
+      (cases-lt r (f .count));
   lies = λ r h. ⊎-elim
-    (λ x. rw (lt-ltb r (f .count) x) (even-bottom (f .bottom) (b .bottom) (f .row r .home) ∙ p .lies r x))
-    (λ (x : f .count ≤ r). rw (le-ltb r (f .count) x) (odd-bottom (f .bottom) (b .bottom) (b .row (r - f .count) .home) ∙ q .lies (r - f .count) (omega arith)))
-    (cases-lt r (f .count));
+      (λ x. rw (lt-ltb r (f .count) x) (even-bottom (f .bottom) (b .bottom) (f .row r .home) ∙ p .lies r x))
+      (λ (x : f .count ≤ r). rw (le-ltb r (f .count) x) (odd-bottom (f .bottom) (b .bottom) (b .row (r - f .count) .home) ∙ q .lies (r - f .count) (omega arith)))
+      (cases-lt r (f .count));
 }

@@ -102,16 +102,16 @@ module _ (m n m′ : Rows) (h : List Event) (l : Lawful m) (u : Obeyed m n h) wh
   landed-more r b None d e = d .bottom (m .row r .home) ∙ u .landed r b e
   landed-more r b (Some t) d e = ⊎-elim
       (λ (q : t .row ≡ r).
-          let e′ : Some (t .bytes) ≡ Some b = rw (eq-eqb (t .row) r q) at e in
-          let same : t .bytes ≡ b = cc in
-          ap (m′ .bottom) (sym (u .homes r) ∙ ap (λ s. n .row s .home) (sym q)) ∙ d .1 .landed
-          ∙ ap (λ s. n .row s .laid (t .bytes)) q ∙ ap (λ f. f (t .bytes)) (u .laid r) ∙ ap (m .row r .laid) same)
+      let e′ : Some (t .bytes) ≡ Some b = rw (eq-eqb (t .row) r q) at e in
+      let same : t .bytes ≡ b = cc in
+      ap (m′ .bottom) (sym (u .homes r) ∙ ap (λ s. n .row s .home) (sym q)) ∙ d .1 .landed
+      ∙ ap (λ s. n .row s .laid (t .bytes)) q ∙ ap (λ f. f (t .bytes)) (u .laid r) ∙ ap (m .row r .laid) same)
       (λ (q : t .row ≡ r → ⊥).
-          let e′ : last-write r h ≡ Some b = rw (ne-eqb (t .row) r q) at e in
-          let f = u .rows in
-          let k = d .0 in
-          d .1 .apart (m .row r .home) (λ p. q (sym (l .apart r (t .row) (u .exist r b e′) (omega arith) (p ∙ u .homes (t .row)))))
-          ∙ u .landed r b e′)
+      let e′ : last-write r h ≡ Some b = rw (ne-eqb (t .row) r q) at e in
+      let f = u .rows in
+      let k = d .0 in
+      d .1 .apart (m .row r .home) (λ p. q (sym (l .apart r (t .row) (u .exist r b e′) (omega arith) (p ∙ u .homes (t .row)))))
+      ∙ u .landed r b e′)
       (cases-eq (t .row) r)
 
   some-left : {X : Type 0} (x y : Option X) → isSome x ≡ true → isSome (or-else x y) ≡ true
@@ -150,20 +150,20 @@ obeyed-more m n m′ h c a l u d =
     let row : (r : ℕ) → m′ .row r ≡ showing (valueOr (taken-by r w) (n .row r .shown)) (n .row r) = λ r. moved-row n m′ r w (d .moved) in
     record {
       right = λ k f p.
-        let q : length (h ++ e ∷ []) ≡ length h + 1 = length-push h e in
-        ⊎-elim
-            (λ (s : k < length h).
-                let s′ : k ≤ length h = omega arith in
-                rw (take-append-le k h (e ∷ []) s′, getD-append-left h (e ∷ []) f k s) (u .right k f s))
-            (λ (s : length h ≤ k).
-                let s′ : length h ≡ k = omega arith in
-                rw (take-at h (e ∷ []) k s′, getD-at h e [] f k s′) (d .right ∙ due-same m n h u c))
-            (cases-lt k (length h));
+          let q : length (h ++ e ∷ []) ≡ length h + 1 = length-push h e in
+          ⊎-elim
+          (λ (s : k < length h).
+          let s′ : k ≤ length h = omega arith in
+          rw (take-append-le k h (e ∷ []) s′, getD-append-left h (e ∷ []) f k s) (u .right k f s))
+          (λ (s : length h ≤ k).
+          let s′ : length h ≡ k = omega arith in
+          rw (take-at h (e ∷ []) k s′, getD-at h e [] f k s′) (d .right ∙ due-same m n h u c))
+          (cases-lt k (length h));
       shown = λ r.
-        ap (λ x. x .shown) (row r)
-        ∙ ap (valueOr (taken-by r w)) (u .shown r)
-        ∙ sym (value-or-else (taken-by r w) (last-write r h) (m .row r .shown))
-        ∙ ap (λ o. valueOr o (m .row r .shown)) (sym (last-write-push r h e));
+          ap (λ x. x .shown) (row r)
+          ∙ ap (valueOr (taken-by r w)) (u .shown r)
+          ∙ sym (value-or-else (taken-by r w) (last-write r h) (m .row r .shown))
+          ∙ ap (λ o. valueOr o (m .row r .shown)) (sym (last-write-push r h e));
       rows = moved-count n m′ w (d .moved) ∙ u .rows;
       locks = λ r. ap (λ x. x .locked) (row r) ∙ u .locks r;
       homes = λ r. ap (λ x. x .home) (row r) ∙ u .homes r;

@@ -6,9 +6,9 @@ use Prim.Native.Nat.{ℕ, zero, suc, _+_, _*_, _%_, _≤_, _<_}
 use native.Mathlib.Omega.{arith}
 use lib.ListN.{length, getD, take, drop}
 use borrow.Rule.Slice.PartMut.{putMid}
-use Rattle.std.proofs.shelf.Lists.{length-take, length-drop, length-append, getD-take, getD-drop, getD-past, same-lists, places}
+use Rattle.std.proofs.shelf.Lists.{length-take, length-drop, length-append, getD-take, getD-drop, same-lists, places}
 use Rattle.std.proofs.shelf.Tests.{cases-lt}
-use Rattle.rows.specs.Memory.{row-of, as-bytes, memory-rows, rows-in, RowSet, Holds}
+use Rattle.rows.specs.Memory.{row-of, as-bytes, memory-rows, rows-in, RowSet}
 use Rattle.rows.specs.Rows.{Stored}
 
 -- bytes in front of a list are as they are
@@ -25,20 +25,6 @@ as-bytes-same (x ∷ xs) small =
     let h = small 0 in
     let e : x % 256 ≡ x = omega arith in
     rw e (ap (λ ys. x ∷ ys) (as-bytes-same xs (λ i. small (suc i))))
-
--- a part of bytes is bytes
-part-small : (xs : List ℕ) (k a i : ℕ) → ((i : ℕ) → getD xs i 0 < 256) → getD (take k (drop a xs)) i 0 < 256
-part-small xs k a i small = ⊎-elim
-    (λ (h : i < k). rw (getD-take k (drop a xs) i 0 h, getD-drop a xs i 0) (small (a + i)))
-    (λ (h : k ≤ i). rw (getD-past (take k (drop a xs)) i 0 (simp length-take (omega arith))) (omega arith))
-    (cases-lt i k)
-
-pub memory-holds : (xs : List ℕ) → Holds (memory-rows xs) xs
-memory-holds xs = record {
-  count = refl;
-  shown = λ small r. as-bytes-same (row-of xs r) (λ i. part-small xs 128 (128 * r) i small);
-  unlocked = λ r. refl;
-}
 
 -- a write of k bytes at a, over any width k
 module _ (xs b : List ℕ) (a k : ℕ) (e : length b ≡ k) (h : a + k ≤ length xs) where
@@ -67,10 +53,10 @@ row-other : (xs ys b : List ℕ) (row r : ℕ) → RowSet xs ys row b → (r ≡
 row-other xs ys b row r s n =
     let l = s .long in
     same-lists _ _ (simp (length-take, length-drop) (omega arith)) (λ j d m.
-        let m′ : j < 128 = omega (arith, length-take 128 (drop (128 * r) ys)) in
-        getD-take 128 _ j d m′ ∙ getD-drop (128 * r) _ j d
-        ∙ s .outside (128 * r + j) d (λ p q. n (omega arith))
-        ∙ sym (getD-take 128 _ j d m′ ∙ getD-drop (128 * r) _ j d))
+    let m′ : j < 128 = omega (arith, length-take 128 (drop (128 * r) ys)) in
+    getD-take 128 _ j d m′ ∙ getD-drop (128 * r) _ j d
+    ∙ s .outside (128 * r + j) d (λ p q. n (omega arith))
+    ∙ sym (getD-take 128 _ j d m′ ∙ getD-drop (128 * r) _ j d))
 
 pub row-stored : (xs ys b : List ℕ) (row : ℕ) → RowSet xs ys row b → ((i : ℕ) → getD b i 0 < 256) → Stored (memory-rows xs) (memory-rows ys) row b
 row-stored xs ys b row s small =

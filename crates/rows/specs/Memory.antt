@@ -52,9 +52,8 @@ pub record RowSet (xs ys : List ℕ) (row : ℕ) (b : List ℕ) : Type 0 where
   pub here : row-of ys row ≡ b
   pub outside : (i d : ℕ) → (128 * row ≤ i → i < 128 * row + 128 → ⊥) → getD ys i d ≡ getD xs i d
 
--- a store that holds the rows of xs: its count, the bytes that each row shows (each number of a memory is below 256),
--- and no locks
+-- a store that holds the rows of xs: its count, the bytes that each row shows, and no locks
 pub record Holds (m : Rows) (xs : List ℕ) : Type 0 where
   pub count : m .count ≡ rows-in (length xs)
-  pub shown : ((i : ℕ) → getD xs i 0 < 256) → (r : ℕ) → m .row r .shown ≡ row-of xs r
+  pub shown : (r : ℕ) → m .row r .shown ≡ as-bytes (row-of xs r)
   pub unlocked : (r : ℕ) → m .row r .locked ≡ false

@@ -13,7 +13,10 @@ pub enum RowCall {
 #[derive(Drop)]
 pub enum RowAnswer {
     Count(usize),
-    Place { place: Vec<u8>, result: Result<(), RowRefusal> },
+    Place {
+        place: Vec<u8>,
+        result: Result<(), RowRefusal>,
+    },
     Done(Result<(), RowRefusal>),
     Lock(Result<bool, RowRefusal>),
 }

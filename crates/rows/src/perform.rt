@@ -27,7 +27,11 @@ pub fn make<S: Store>(store: &mut S, call: RowCall) -> RowAnswer
 
 // Makes each call in turn, and gives the answers in the same order. The memory for them is asked for before the first
 // call: where there is none, no call is made.
-pub fn perform<S: Store>(heap: Global, store: &mut S, calls: Vec<RowCall>) -> Result<Vec<RowAnswer>, AllocError>
+pub fn perform<S: Store>(
+    heap: Global,
+    store: &mut S,
+    calls: Vec<RowCall>,
+) -> Result<Vec<RowAnswer>, AllocError>
     ensures { λ r. ⌜ Cases r (λ answers. Performed (meaning (now (store .entry))) (meaning (now (store .exit))) (vec-items calls) (vec-items answers)) (λ _. now (store .exit) ≡ now (store .entry)) ⌝ }
 {
     let mut answers = Vec::with_capacity(heap, calls.len())?;

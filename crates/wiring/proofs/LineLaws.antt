@@ -12,10 +12,10 @@ use lib.Pow.{pow-mono}
 use lib.ListN.{length, getD, drop}
 use Rattle.std.specs.Iters.{counting}
 use Rattle.std.proofs.shelf.Counted.{length-map-counting, getD-map-counting, fill-by-all}
-use Rattle.std.proofs.shelf.Lists.{at-drop-more, at-drop-all, drop-all, length-drop}
+use Rattle.std.proofs.shelf.Lists.{getD-map, at-drop-more, at-drop-all, drop-all, length-drop}
 use Rattle.std.proofs.shelf.Tests.{cases-eq, cases-lt, eq-eqb, ne-eqb}
 use Rattle.std.proofs.shelf.Ways.{tells}
-use Rattle.wiring.specs.Lines.{occurrences, EachOnce, bit, crossed, position, reversed}
+use Rattle.wiring.specs.Lines.{occurrences, EachOnce, bit, crossed, position, reversed, Shows}
 
 abbrev one : ℕ → ℕ → ℕ
 one x v = cond (eqb x v) 1 0
@@ -47,22 +47,22 @@ position-at (x ∷ ls) (suc i) h e =
     let v = getD ls i 0 in
     let u : 1 ≤ occurrences v ls = occurrences-at ls i (omega arith) in
     ⊎-elim
-        (λ q. let s : one x v ≡ 1 = rw (eq-eqb x v q) in absurd (omega arith))
-        (λ n.
-            let s : one x v ≡ 0 = rw (ne-eqb x v n) in
-            rw (ne-eqb x v n) (ap (λ k. 1 + k) (position-at ls i (omega arith) (omega arith)) ∙ omega arith))
-        (cases-eq x v)
+    (λ q. let s : one x v ≡ 1 = rw (eq-eqb x v q) in absurd (omega arith))
+    (λ n.
+    let s : one x v ≡ 0 = rw (ne-eqb x v n) in
+    rw (ne-eqb x v n) (ap (λ k. 1 + k) (position-at ls i (omega arith) (omega arith)) ∙ omega arith))
+    (cases-eq x v)
 
 position-lt : (v : ℕ) (ls : List ℕ) → 1 ≤ occurrences v ls → position v ls < length ls
 position-lt v [] h = absurd (omega arith)
 position-lt v (x ∷ ls) h =
     ⊎-elim
-        (λ q. rw (eq-eqb x v q) (omega arith))
-        (λ n.
-            let s : one x v ≡ 0 = rw (ne-eqb x v n) in
-            let u = position-lt v ls (omega arith) in
-            rw (ne-eqb x v n) (omega arith))
-        (cases-eq x v)
+    (λ q. rw (eq-eqb x v q) (omega arith))
+    (λ n.
+    let s : one x v ≡ 0 = rw (ne-eqb x v n) in
+    let u = position-lt v ls (omega arith) in
+    rw (ne-eqb x v n) (omega arith))
+    (cases-eq x v)
 
 -- how many lines are below n
 abbrev under : ℕ → List ℕ → ℕ
@@ -153,21 +153,21 @@ crossed-back ls c once h =
     let l = crossed-lt ls (crossed (reversed ls) c) in
     same-bits 8 _ c (rw e at l) (omega arith)
     (λ i k.
-        let p = line-lt ls i once k in
-        bit-crossed ls (crossed (reversed ls) c) i (omega arith)
-        ∙ bit-crossed (reversed ls) c (getD ls i 0) (let f = back-length ls in omega arith)
-        ∙ ap (λ j. bit j c) (back-at ls i once k))
+    let p = line-lt ls i once k in
+    bit-crossed ls (crossed (reversed ls) c) i (omega arith)
+    ∙ bit-crossed (reversed ls) c (getD ls i 0) (let f = back-length ls in omega arith)
+    ∙ ap (λ j. bit j c) (back-at ls i once k))
 
 -- and a wiring undoes its reverse
 position-names : (v : ℕ) (ls : List ℕ) → 1 ≤ occurrences v ls → getD ls (position v ls) 0 ≡ v
 position-names v [] h = absurd (omega arith)
 position-names v (x ∷ ls) h =
     ⊎-elim
-        (λ q. rw (eq-eqb x v q) q)
-        (λ n.
-            let s : one x v ≡ 0 = rw (ne-eqb x v n) in
-            rw (ne-eqb x v n, one-add) (position-names v ls (omega arith)))
-        (cases-eq x v)
+    (λ q. rw (eq-eqb x v q) q)
+    (λ n.
+    let s : one x v ≡ 0 = rw (ne-eqb x v n) in
+    rw (ne-eqb x v n, one-add) (position-names v ls (omega arith)))
+    (cases-eq x v)
 
 line-back : (ls : List ℕ) (j : ℕ) → EachOnce ls → j < 8 → getD ls (getD (reversed ls) j 0) 0 ≡ j
 unfolding reversed
@@ -182,10 +182,54 @@ back-crossed ls c once h =
     let l = crossed-lt (reversed ls) (crossed ls c) in
     same-bits 8 _ c (rw f at l) (omega arith)
     (λ j k.
-        let p = back-lt ls j once k in
-        bit-crossed (reversed ls) (crossed ls c) j (omega arith)
-        ∙ bit-crossed ls c (getD (reversed ls) j 0) (omega arith)
-        ∙ ap (λ i. bit i c) (line-back ls j once k))
+    let p = back-lt ls j once k in
+    bit-crossed (reversed ls) (crossed ls c) j (omega arith)
+    ∙ bit-crossed ls c (getD (reversed ls) j 0) (omega arith)
+    ∙ ap (λ i. bit i c) (line-back ls j once k))
+
+-- the reverse names each line once too: f names v at k alone
+only-there : (f : ℕ → ℕ) (v k a n : ℕ) → ((j : ℕ) → a ≤ j → j < a + n → f j ≡ v → j ≡ k) → (k < a) ⊎ (a + n ≤ k) → occurrences v (map f (counting a n)) ≡ 0
+only-there f v k a zero only out = refl
+only-there f v k a (suc n) only out =
+    let n0 : f a ≡ v → ⊥ = λ e. let q = only a (omega arith) (omega arith) e in ⊎-elim (λ h. omega arith) (λ h. omega arith) out in
+    let rest = only-there f v k (a + 1) n (λ j h l e. only j (omega arith) (omega arith) e) (⊎-elim (λ h. inl (omega arith)) (λ h. inr (omega arith)) out) in
+    rw (ne-eqb (f a) v n0) (omega arith)
+
+once-there : (f : ℕ → ℕ) (v k a n : ℕ) → ((j : ℕ) → a ≤ j → j < a + n → f j ≡ v → j ≡ k) → f k ≡ v → a ≤ k → k < a + n → occurrences v (map f (counting a n)) ≡ 1
+once-there f v k a zero only at low high = absurd (omega arith)
+once-there f v k a (suc n) only at low high = ⊎-elim
+    (λ (e : a ≡ k).
+    let rest = only-there f v k (a + 1) n (λ j h l q. only j (omega arith) (omega arith) q) (inl (omega arith)) in
+    rw (eq-eqb (f a) v (ap f e ∙ at)) (omega arith))
+    (λ (e : a ≡ k → ⊥).
+    let n0 : f a ≡ v → ⊥ = λ q. e (only a (omega arith) (omega arith) q) in
+    let rest = once-there f v k (a + 1) n (λ j h l q. only j (omega arith) (omega arith) q) at (omega arith) (omega arith) in
+    rw (ne-eqb (f a) v n0) (omega arith))
+    (cases-eq a k)
+
+pub reversed-once : (ls : List ℕ) → EachOnce ls → EachOnce (reversed ls)
+unfolding reversed
+reversed-once ls once = (
+  refl,
+  λ v h.
+      let e : length ls ≡ 8 = once .0 in
+      let l = line-lt ls v once h in
+      once-there (λ j. position j ls) v (getD ls v 0) 0 8
+      (λ j low high q.
+      let o : occurrences j ls ≡ 1 = once .1 j (omega arith) in
+      sym (position-names j ls (omega arith)) ∙ ap (λ i. getD ls i 0) q)
+      (position-at ls v (omega arith) (once .1 (getD ls v 0) l)) (omega arith) (omega arith),
+)
+
+-- what the loop over the bytes gives
+pub map-shows : (ls xs ys : List ℕ) → EachOnce ls → ys ≡ map (crossed ls) xs → Shows ls xs ys
+map-shows ls xs ys once e = record {
+  crosses = e;
+  bits = λ k i h l.
+      ap (λ zs. bit i (getD zs k 0)) e
+      ∙ ap (bit i) (getD-map (crossed ls) xs k 0 0 h)
+      ∙ bit-crossed ls (getD xs k 0) i (let f : length ls ≡ 8 = once .0 in omega arith);
+}
 
 -- a turn of the loop that puts the bits together, from the last line to the first
 pub crossed-drop-lt : (ls : List ℕ) (b i : ℕ) → length ls ≡ 8 → 1 ≤ i → crossed (drop i ls) b < 128

@@ -4,7 +4,7 @@ use mathlib.Core.List.{List, [], _∷_, map}
 use mathlib.Core.Path.{_≡_}
 use Prim.Native.Nat.{ℕ, _+_, _*_, _/_, _%_, _^_, _<_}
 use lib.Dec.{eqb}
-use lib.ListN.{length}
+use lib.ListN.{length, getD}
 use Rattle.std.specs.Iters.{counting}
 
 -- how often the lines name v
@@ -24,6 +24,11 @@ bit i x = (x / 2 ^ i) % 2
 abbrev pub crossed : List ℕ → ℕ → ℕ
 crossed [] b = 0
 crossed (l ∷ ls) b = bit l b + 2 * crossed ls b
+
+-- Bytes xs from below show as ys: each bit of each byte is the bit below that its line names.
+pub record Shows (ls xs ys : List ℕ) : Type 0 where
+  pub crosses : ys ≡ map (crossed ls) xs
+  pub bits : (k i : ℕ) → k < length xs → i < 8 → bit i (getD ys k 0) ≡ bit (getD ls i 0) (getD xs k 0)
 
 -- the line that names v first
 abbrev pub position : ℕ → List ℕ → ℕ

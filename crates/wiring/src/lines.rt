@@ -1,10 +1,7 @@
-// Bytes through eight lines.
-ghost use mathlib.Core.List.{map};
+// Lists of lines.
 ghost use mathlib.Core.Path.{_≡_};
-ghost use Prim.Native.Nat.{ℕ, _<_};
-ghost use lib.ListN.{length, getD};
 ghost use Rattle.std.specs.Orderings.{When};
-ghost use Rattle.wiring.specs.Lines.{EachOnce, occurrences, position, crossed};
+ghost use Rattle.wiring.specs.Lines.{EachOnce, occurrences, position};
 
 // How often the lines name v.
 fn occurrences(lines: &[u8], v: u8) -> usize
@@ -46,26 +43,4 @@ pub(crate) fn position(lines: &[u8], v: u8) -> usize
         at += 1;
     }
     at
-}
-
-// The byte whose bit i is the bit of b that line i names.
-fn cross_byte(lines: &[u8; 8], b: u8) -> u8
-    requires { ⌜ ((i : ℕ) → i < 8 → getD (now lines) i 0 < 8) ⌝ }
-    ensures { λ r. ⌜ r ≡ crossed (now (lines .entry)) b ⌝ }
-{
-    let mut out: u8 = 0;
-    for i in (0..8usize).rev() {
-        out = 2 * out + (b >> lines[i]) % 2;
-    }
-    out
-}
-
-// Each byte through the lines.
-pub(crate) fn cross_bytes(lines: &[u8; 8], bytes: &mut [u8])
-    requires { ⌜ ((i : ℕ) → i < 8 → getD (now lines) i 0 < 8) ⌝ }
-    ensures { λ _. ⌜ now (bytes .exit) ≡ map (crossed (now (lines .entry))) (now (bytes .entry)) ⌝ }
-{
-    for b in bytes.iter_mut() {
-        *b = cross_byte(lines, *b);
-    }
 }

@@ -1,6 +1,7 @@
 // The row calls of a crossing.
 ghost use mathlib.Core.List.{map};
 ghost use mathlib.Core.Path.{_≡_};
+ghost use lib.ListN.{length};
 ghost use Rattle.rows.specs.RowCalls.{Reads, Writes, Wrote, Asks};
 ghost use Rattle.rows.specs.Rows.{Kept};
 ghost use Rattle.wiring.specs.Lines.{crossed, reversed};
@@ -9,6 +10,18 @@ use crate::crossing::Crossing;
 use rows::refusal::RowRefusal;
 use rows::store::ROW_BYTES;
 use rows::store::Store;
+use wiring::wiring::Wiring;
+
+// The bytes that have to lie below for those given to show.
+fn laid(wiring: &Wiring, bytes: &[u8]) -> [u8; ROW_BYTES]
+    requires { ⌜ length (now bytes) ≡ 128 ⌝ }
+    ensures { λ r. ⌜ r ≡ map (crossed (reversed (now (wiring .entry) .lines))) (now (bytes .entry)) ⌝ }
+{
+    let mut laid = [0; ROW_BYTES];
+    laid.copy_from_slice(bytes);
+    wiring.lay(&mut laid);
+    laid
+}
 
 // Beside what every store promises, each call tells what becomes of the store below: only an accepted write changes it,
 // and of it only the one row, which takes the bytes that show as those given.
@@ -45,9 +58,7 @@ pub impl<S: Store> Store for Crossing<S> as CrossingRows {
         if bytes.len() != ROW_BYTES {
             return self.below.write(row, bytes);
         }
-        let mut laid = [0; ROW_BYTES];
-        laid.copy_from_slice(bytes);
-        self.wiring.lay(&mut laid);
+        let laid = laid(&self.wiring, bytes);
         self.below.write(row, &laid)
     }
 

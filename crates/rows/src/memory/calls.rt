@@ -1,13 +1,15 @@
 // The row calls of a store over lent memory.
 ghost use denote.Ref.{now, name};
-ghost use mathlib.Core.Bool.{false};
+ghost use mathlib.Core.Bool.{false, cond};
 ghost use mathlib.Core.List.{_++_};
 ghost use mathlib.Core.Path.{_≡_};
-ghost use Prim.Native.Nat.{_*_, _+_, _≤_};
+ghost use Prim.Native.Nat.{_*_, _+_, _<_, _≤_};
+ghost use lib.Dec.{eqb, ltb};
 ghost use lib.ListN.{length, drop};
 ghost use Rattle.std.specs.Results.{Cases};
 ghost use Rattle.std.specs.Vec.{made};
 ghost use Rattle.rows.specs.Memory.{memory-rows, memory-lawful, rows-in, row-of, as-bytes, RowSet};
+ghost use Rattle.rows.specs.Refusals.{answered};
 ghost use Rattle.rows.specs.RowCalls.{Reads, Writes, Asks};
 ghost use Rattle.rows.specs.Rows.{Kept, Stored};
 use crate::memory::MemoryStore;
@@ -16,16 +18,25 @@ use crate::store::MOST_ROWS;
 use crate::store::ROW_BYTES;
 use crate::store::Store;
 
+// Copies a row of the memory into the first 128 bytes of the place.
+fn load_row(memory: &[u8], row: usize, place: &mut [u8])
+    requires within { ⌜ 128 * row + 128 ≤ length (now memory) ⌝ }
+    requires room { ⌜ 128 ≤ length (now place) ⌝ }
+    ensures { λ _. ⌜ now (place .exit) ≡ row-of (now (memory .entry)) row ++ drop 128 (now (place .entry)) ⌝ }
+{
+    let at = ROW_BYTES * row;
+    place[0..ROW_BYTES].copy_from_slice(&memory[at..at + ROW_BYTES]);
+}
+
 impl<'a> MemoryStore<'a> {
-    // Copies a row of the memory into the first 128 bytes of the place.
-    fn copy_row(&self, row: usize, place: &mut [u8])
+    // As `load_row`, with the bytes told as the store's meaning tells them.
+    fn load(&self, row: usize, place: &mut [u8])
         requires within { ⌜ 128 * row + 128 ≤ length (now (now self .memory)) ⌝ }
         requires room { ⌜ 128 ≤ length (now place) ⌝ }
         ensures reads { λ _. ⌜ now (place .exit) ≡ as-bytes (row-of (now (now (self .entry) .memory)) row) ++ drop 128 (now (place .entry)) ⌝ }
         ensures copies { λ _. ⌜ now (place .exit) ≡ row-of (now (now (self .entry) .memory)) row ++ drop 128 (now (place .entry)) ⌝ }
     {
-        let at = ROW_BYTES * row;
-        place[0..ROW_BYTES].copy_from_slice(&self.memory[at..at + ROW_BYTES]);
+        load_row(self.memory, row, place);
     }
 }
 
@@ -34,6 +45,20 @@ fn rows_in(bytes: usize) -> usize
     ensures { λ r. ⌜ r ≡ rows-in bytes ⌝ }
 {
     (bytes / ROW_BYTES).min(MOST_ROWS)
+}
+
+// The checks of a write of so many bytes to a store of so many rows, none of them locked.
+fn check_write(rows: usize, row: usize, bytes: usize) -> Result<(), RowRefusal>
+    ensures checked { λ r. ⌜ answered r ≡ cond (ltb row rows) (cond (eqb bytes 128) 0 5) 4 ⌝ }
+    ensures passed { λ r. ⌜ made r (λ _. (row < rows) × (bytes ≡ 128)) ⌝ }
+{
+    if row >= rows {
+        return Err(RowRefusal::Absent);
+    }
+    if bytes != ROW_BYTES {
+        return Err(RowRefusal::Length);
+    }
+    Ok(())
 }
 
 // Copies 128 bytes over a row of the memory.
@@ -75,7 +100,7 @@ pub impl<'a> Store for MemoryStore<'a> as MemoryRows {
         if place.len() < ROW_BYTES {
             return Err(RowRefusal::Length);
         }
-        self.copy_row(row, place);
+        self.load(row, place);
         Ok(())
     }
 
@@ -84,12 +109,7 @@ pub impl<'a> Store for MemoryStore<'a> as MemoryRows {
         ensures memory { λ r. ⌜ Cases r (λ _. RowSet (now (now (self .entry) .memory)) (now (now (self .exit) .memory)) row (now (bytes .entry))) (λ _. now (now (self .exit) .memory) ≡ now (now (self .entry) .memory)) ⌝ }
         ensures same { λ _. ⌜ name (now (self .exit) .memory) ≡ name (now (self .entry) .memory) ⌝ }
     {
-        if row >= rows_in(self.memory.len()) {
-            return Err(RowRefusal::Absent);
-        }
-        if bytes.len() != ROW_BYTES {
-            return Err(RowRefusal::Length);
-        }
+        check_write(rows_in(self.memory.len()), row, bytes.len())?;
         store_row(self.memory, row, bytes);
         Ok(())
     }

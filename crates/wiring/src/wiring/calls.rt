@@ -1,10 +1,10 @@
 // What a wiring does.
-ghost use mathlib.Core.List.{map};
+ghost use mathlib.Core.List.{List, map};
 ghost use mathlib.Core.Path.{_≡_};
 ghost use Prim.Native.Nat.{ℕ, _<_};
-ghost use lib.ListN.{getD, length};
+ghost use lib.ListN.{getD};
 ghost use Rattle.std.specs.Iters.{counting};
-ghost use Rattle.wiring.specs.Lines.{crossed, reversed, bit};
+ghost use Rattle.wiring.specs.Lines.{crossed, reversed, Shows};
 ghost use Rattle.wiring.specs.Rewiring.{Rewires};
 use crate::lines;
 use crate::refusal::WiringRefusal;
@@ -38,31 +38,49 @@ impl Wiring {
         Ok(())
     }
 
-    // The lines that show what each line below carries.
-    fn reversed(&self) -> [u8; 8]
-        ensures { λ r. ⌜ r ≡ reversed (now (self .entry) .lines) ⌝ }
+    // The wiring that shows what each line below carries.
+    pub fn reversed(&self) -> Wiring
+        ensures lines { λ r. ⌜ r .lines ≡ reversed (now (self .entry) .lines) ⌝ }
+        ensures undone { λ r. ⌜ ((bs : List ℕ) → ((i : ℕ) → getD bs i 0 < 256) → map (crossed (now (self .entry) .lines)) (map (crossed (r .lines)) bs) ≡ bs) ⌝ }
     {
-        let mut back = [0; 8];
+        let mut lines = [0; 8];
         for j in 0..8u8 {
-            back[j as usize] = lines::position(&self.lines, j) as u8;
+            lines[j as usize] = lines::position(&self.lines, j) as u8;
         }
-        back
+        Wiring { lines }
+    }
+
+    // The byte whose bit i is the bit of b that line i names.
+    fn cross(&self, b: u8) -> u8
+        ensures { λ r. ⌜ r ≡ crossed (now (self .entry) .lines) b ⌝ }
+    {
+        let mut out: u8 = 0;
+        for i in (0..8usize).rev() {
+            out = 2 * out + (b >> self.lines[i]) % 2;
+        }
+        out
+    }
+
+    fn cross_each(&self, bytes: &mut [u8])
+        ensures { λ _. ⌜ Shows (now (self .entry) .lines) (now (bytes .entry)) (now (bytes .exit)) ⌝ }
+    {
+        for b in bytes.iter_mut() {
+            *b = self.cross(*b);
+        }
     }
 
     // Turns each byte from below into the byte that shows.
     pub fn show(&self, bytes: &mut [u8])
-        ensures shows { λ _. ⌜ now (bytes .exit) ≡ map (crossed (now (self .entry) .lines)) (now (bytes .entry)) ⌝ }
-        ensures bits { λ _. ⌜ ((k i : ℕ) → k < length (now (bytes .entry)) → i < 8 → bit i (getD (now (bytes .exit)) k 0) ≡ bit (getD (now (self .entry) .lines) i 0) (getD (now (bytes .entry)) k 0)) ⌝ }
+        ensures { λ _. ⌜ Shows (now (self .entry) .lines) (now (bytes .entry)) (now (bytes .exit)) ⌝ }
     {
-        lines::cross_bytes(&self.lines, bytes);
+        self.cross_each(bytes);
     }
 
     // Turns each byte into the one that has to lie below for it to show.
     pub fn lay(&self, bytes: &mut [u8])
-        ensures back { λ _. ⌜ map (crossed (now (self .entry) .lines)) (now (bytes .exit)) ≡ now (bytes .entry) ⌝ }
         ensures lies { λ _. ⌜ now (bytes .exit) ≡ map (crossed (reversed (now (self .entry) .lines))) (now (bytes .entry)) ⌝ }
+        ensures back { λ _. ⌜ map (crossed (now (self .entry) .lines)) (now (bytes .exit)) ≡ now (bytes .entry) ⌝ }
     {
-        let back = self.reversed();
-        lines::cross_bytes(&back, bytes);
+        self.reversed().cross_each(bytes);
     }
 }

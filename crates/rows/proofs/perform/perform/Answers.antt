@@ -25,7 +25,6 @@ loop-call-holds g c =
     let many = c .args .calls .ok .0 in
     (tt, tt, refl, omega arith, rw (made .0) (performed-none (g .S·Store .meaning (c .args .store .now))))
 
-
 pub push-reserved-requires : need.push-reserved-requires
 push-reserved-requires g c κs =
     let step = c .in-Some .ensures tt .steps in
@@ -39,11 +38,13 @@ push-reserved-requires g c κs =
 
 pub loop-call-again : need.loop-call-again
 loop-call-again g c =
-    let step = c .in-Some .ensures tt .steps in
-    (tt, tt,
-     one-more (c .loop-call .yielded) _ _ _ _ (step .0) (c .loop-call .inv .2),
-     (let room = c .loop-call .inv .3 in omega (arith, c .push-reserved .ensures .capacity)),
-     rw (c .push-reserved .ensures .items) (performed-more _ _ _ _ _ _ _ (g .S·Store .lawful (c .args .store .now)) (c .loop-call .inv .4) (c .make .ensures)))
+    let step = c .in-Some .ensures tt .steps in (
+      tt,
+      tt,
+      one-more (c .loop-call .yielded) _ _ _ _ (step .0) (c .loop-call .inv .2),
+      (let room = c .loop-call .inv .3 in omega (arith, c .push-reserved .ensures .capacity)),
+      rw (c .push-reserved .ensures .items) (performed-more _ _ _ _ _ _ _ (g .S·Store .lawful (c .args .store .now)) (c .loop-call .inv .4) (c .make .ensures)),
+    )
 
 pub returns : need.returns
 returns g c =

@@ -11,8 +11,8 @@ loop-x-again c =
     let ls = c .args .lines .now in
     let i = c .loop-x .x-index in
     elim (c .if-x-v .came) [
-      then-x-v w ↦ (let e = w .n-is in let o = occurrences-here (c .args .v) ls i (c .loop-x-test .taken) (w .if-x-v .taken) in (omega arith, omega arith))
-    | else-x-v w ↦ (let e = w .n-is in let o = occurrences-other (c .args .v) ls i (c .loop-x-test .taken) (w .if-x-v .left) in (omega arith, omega arith))
+      | then-x-v w ↦ (let e = w .n-is in let o = occurrences-here (c .args .v) ls i (c .loop-x-test .taken) (w .if-x-v .taken) in (omega arith, omega arith))
+      | else-x-v w ↦ (let e = w .n-is in let o = occurrences-other (c .args .v) ls i (c .loop-x-test .taken) (w .if-x-v .left) in (omega arith, omega arith))
     ]
 
 pub returns : need.returns

@@ -5,4 +5,4 @@ use Rattle.wiring.specs.Lines.{position}
 use Rattle.wiring.proofs.wiring.Wiring.reversed.Given as given
 
 abbrev pub Inv-loop-j : given.InvT-loop-j
-Inv-loop-j l = (length (l .back) ≡ 8) × ((k : ℕ) → k < l .j → getD (l .back) k 0 ≡ position k (l .self .lines))
+Inv-loop-j l = (length (l .lines) ≡ 8) × ((k : ℕ) → k < l .j → getD (l .lines) k 0 ≡ position k (l .self .lines))

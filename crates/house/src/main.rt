@@ -1,0 +1,30 @@
+// A house's settings: the rows of two heating modules' chips behind one crossed board, and calls on them.
+mod house;
+mod report;
+mod text;
+
+use rows::memory::MemoryStore;
+use rows::memory::calls::MemoryRows;
+use std::error::AnyError;
+
+// Rows of the chip in the kitchen's module, and of the one in the attic's.
+const KITCHEN_BYTES: usize = 4 * 128;
+
+const ATTIC_BYTES: usize = 5 * 128;
+
+fn run(rt: &LibcRuntime) -> Result<(), AnyError> {
+    let heap = rt.alloc();
+    let mut kitchen = vec![in heap; 0x4B; KITCHEN_BYTES]?;
+    let mut attic = vec![in heap; 0xFF; ATTIC_BYTES]?;
+    let wiring = house::board(rt)?;
+    house::visit(
+        rt,
+        MemoryStore::new(&mut kitchen),
+        MemoryStore::new(&mut attic),
+        wiring,
+    )
+}
+
+fn main(rt: LibcRuntime) -> Result<(), AnyError> {
+    rt.report(run(&rt))
+}

@@ -1,0 +1,3 @@
+// Worked cases of stores, wirings and layers.
+#[cfg(test)]
+mod tests;
