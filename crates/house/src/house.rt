@@ -1,14 +1,14 @@
 // The pile of a house, and a visit to it.
 use crate::report;
+use crossing::crossing::Crossing;
+use crossing::crossing::calls::CrossingRows;
 use doubles::lockout::Lockout;
 use doubles::lockout::calls::LockoutRows;
-use layers::crossing::Crossing;
-use layers::crossing::calls::CrossingRows;
 use layers::pair::Pair;
 use layers::pair::calls::PairRows;
 use layers::window::Window;
 use layers::window::calls::WindowRows;
-use rows::calls::RowCall;
+use row_lists::calls::RowCall;
 use rows::store::Store;
 use std::alloc::AllocError;
 use std::alloc::Global;
@@ -32,7 +32,7 @@ fn wire(rt: &LibcRuntime, wiring: &mut Wiring, lines: &[u8]) -> Result<(), AnyEr
 }
 
 // The attic's board crosses data lines 0 and 1.
-pub fn board(rt: &LibcRuntime) -> Result<Wiring, AnyError> {
+pub(crate) fn board(rt: &LibcRuntime) -> Result<Wiring, AnyError> {
     let mut wiring = Wiring::straight();
     wire(rt, &mut wiring, &[1, 0, 2, 3, 4, 5, 6, 7])?;
     wire(rt, &mut wiring, &[7, 7, 2, 3, 4, 5, 6, 0])?;
@@ -71,7 +71,7 @@ fn questions(heap: Global) -> Result<Vec<RowCall>, AllocError> {
 
 // The house shows rows 1 to 3 of the kitchen's chip, then rows 0 to 2 of the attic's through its board, whose first two
 // rows are locked.
-pub fn visit<K: Store + Drop, A: Store + Drop>(
+pub(crate) fn visit<K: Store + Drop, A: Store + Drop>(
     rt: &LibcRuntime,
     kitchen: K,
     attic: A,

@@ -3,8 +3,8 @@ mod house;
 mod report;
 mod text;
 
-use rows::memory::MemoryStore;
-use rows::memory::calls::MemoryRows;
+use memory::store::MemoryStore;
+use memory::store::calls::MemoryRows;
 use std::error::AnyError;
 
 // Rows of the chip in the kitchen's module, and of the one in the attic's.

@@ -3,14 +3,14 @@ use crate::text::Answer;
 use crate::text::AnswerDisplay;
 use crate::text::Call;
 use crate::text::CallDisplay;
-use rows::calls::RowCall;
-use rows::perform::perform;
+use row_lists::calls::RowCall;
+use row_lists::perform::perform;
 use rows::store::ROW_BYTES;
 use rows::store::Store;
 use std::error::AnyError;
 
 // Makes the calls, and prints each with its answer.
-pub fn calls<S: Store>(
+pub(crate) fn calls<S: Store>(
     rt: &LibcRuntime,
     title: &str,
     store: &mut S,
@@ -32,7 +32,7 @@ pub fn calls<S: Store>(
 }
 
 // Reads each row of the store, and prints what it shows.
-pub fn rows<S: Store>(rt: &LibcRuntime, title: &str, store: &mut S) -> Result<(), AnyError> {
+pub(crate) fn rows<S: Store>(rt: &LibcRuntime, title: &str, store: &mut S) -> Result<(), AnyError> {
     let heap = rt.alloc();
     let mut reads = Vec::new(heap);
     for row in 0..store.rows() {

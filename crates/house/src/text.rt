@@ -1,6 +1,6 @@
 // Calls and answers as a support engineer reads them.
-use rows::calls::RowAnswer;
-use rows::calls::RowCall;
+use row_lists::calls::RowAnswer;
+use row_lists::calls::RowCall;
 use rows::refusal::RowRefusal;
 use rows::refusal::RowRefusalDisplay;
 use std::fmt;

@@ -1,4 +1,3 @@
-// Layers over any stores, each of them a store again.
-pub mod crossing;
+// Layers that show the rows of any stores in another number and order.
 pub mod pair;
 pub mod window;

@@ -1,2 +1,0 @@
-pub mod HistoryLaws
-pub mod MemoryLaws

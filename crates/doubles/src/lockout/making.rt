@@ -19,7 +19,7 @@ impl<S: Store> Lockout<S> {
     pub fn into_below(self) -> S
         ensures { λ r. ⌜ r ≡ self .below ⌝ }
     {
-        let Lockout { below, locked: _ } = self;
+        let Lockout { below, .. } = self;
         below
     }
 }

@@ -19,11 +19,7 @@ impl<S: Store> Window<S> {
     pub fn into_below(self) -> S
         ensures { λ r. ⌜ r ≡ self .below ⌝ }
     {
-        let Window {
-            below,
-            first: _,
-            most: _,
-        } = self;
+        let Window { below, .. } = self;
         below
     }
 }

@@ -1,7 +1,7 @@
 // Memory stores at the edges of their memory.
 use super::number;
-use rows::memory::MemoryStore;
-use rows::memory::calls::MemoryRows;
+use memory::store::MemoryStore;
+use memory::store::calls::MemoryRows;
 use rows::store::Store;
 use std::test::*;
 

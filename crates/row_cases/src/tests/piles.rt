@@ -1,15 +1,15 @@
 // Piles three layers deep and more.
 use super::number;
+use crossing::crossing::Crossing;
+use crossing::crossing::calls::CrossingRows;
 use doubles::lockout::Lockout;
 use doubles::lockout::calls::LockoutRows;
-use layers::crossing::Crossing;
-use layers::crossing::calls::CrossingRows;
 use layers::pair::Pair;
 use layers::pair::calls::PairRows;
 use layers::window::Window;
 use layers::window::calls::WindowRows;
-use rows::memory::MemoryStore;
-use rows::memory::calls::MemoryRows;
+use memory::store::MemoryStore;
+use memory::store::calls::MemoryRows;
 use rows::store::Store;
 use std::test::*;
 use wiring::wiring::Wiring;

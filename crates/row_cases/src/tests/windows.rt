@@ -2,8 +2,8 @@
 use super::number;
 use layers::window::Window;
 use layers::window::calls::WindowRows;
-use rows::memory::MemoryStore;
-use rows::memory::calls::MemoryRows;
+use memory::store::MemoryStore;
+use memory::store::calls::MemoryRows;
 use rows::store::Store;
 use std::test::*;
 

@@ -33,7 +33,7 @@ fn refused(wiring: &mut Wiring, lines: &[u8]) -> Result<(), Fail> {
         Ok(()) => check(false)?,
         Err(refusal) => check_eq(refusal.number(), 7)?,
     }
-    check(wiring.lines() == CROSSED)
+    check(*wiring.lines() == CROSSED)
 }
 
 #[test]

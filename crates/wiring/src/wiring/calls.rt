@@ -21,10 +21,10 @@ impl Wiring {
     }
 
     // The lines below, in the order of the lines that show them.
-    pub fn lines(&self) -> [u8; 8]
-        ensures { λ r. ⌜ r ≡ now (self .entry) .lines ⌝ }
+    pub fn lines(&self) -> &[u8; 8]
+        ensures { λ r. ⌜ now r ≡ now (self .entry) .lines ⌝ }
     {
-        self.lines
+        &self.lines
     }
 
     // Takes new lines, or refuses them and stays as it is.

@@ -1,0 +1,2 @@
+// A store of rows over lent memory.
+pub mod store;
