@@ -1,7 +1,7 @@
-// A house's settings: the rows of two heating modules' chips behind one crossed board, and calls on them.
+// A house's settings: a chip on its bus, then the rows of two heating modules' chips behind one crossed board.
+mod bench;
 mod house;
 mod report;
-mod text;
 
 use memory::store::MemoryStore;
 use memory::store::calls::MemoryRows;
@@ -13,6 +13,7 @@ const KITCHEN_BYTES: usize = 4 * 128;
 const ATTIC_BYTES: usize = 5 * 128;
 
 fn run(rt: &LibcRuntime) -> Result<(), AnyError> {
+    bench::show(rt)?;
     let heap = rt.alloc();
     let mut kitchen = vec![in heap; 0x4B; KITCHEN_BYTES]?;
     let mut attic = vec![in heap; 0xFF; ATTIC_BYTES]?;

@@ -1,13 +1,13 @@
 // Lists of row calls, made and printed.
-use crate::text::Answer;
-use crate::text::AnswerDisplay;
-use crate::text::Call;
-use crate::text::CallDisplay;
 use row_lists::calls::RowCall;
 use row_lists::perform::perform;
 use rows::store::ROW_BYTES;
 use rows::store::Store;
 use std::error::AnyError;
+use texts::rows::Answer;
+use texts::rows::AnswerDisplay;
+use texts::rows::Call;
+use texts::rows::CallDisplay;
 
 // Makes the calls, and prints each with its answer.
 pub(crate) fn calls<S: Store>(

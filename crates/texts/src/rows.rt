@@ -1,4 +1,4 @@
-// Calls and answers as a support engineer reads them.
+// Row calls and their answers.
 use row_lists::calls::RowAnswer;
 use row_lists::calls::RowCall;
 use rows::refusal::RowRefusal;

@@ -1,0 +1,15 @@
+pub mod Meaning
+pub mod Codes
+pub mod Periods
+pub mod Outcomes
+pub mod Time
+pub mod Choices
+pub mod Status
+pub mod Identification
+pub mod Refusals
+pub mod Words
+pub mod Steps
+pub mod Lawful
+pub mod History
+pub mod Law
+pub mod Sizes

@@ -1,0 +1,3 @@
+// Calls and answers as a support engineer reads them.
+pub mod bus_calls;
+pub mod rows;
