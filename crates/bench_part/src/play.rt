@@ -4,6 +4,7 @@ use crate::script::Setup;
 use crate::script::Timing;
 use bus::call::Answer;
 use bus::call::Call;
+use chip::part::socket::PartSocket;
 use kinds::part_kind::At29c010a;
 use kinds::part_kind::At29c010aKind;
 use kinds::part_kind::Bench;
@@ -16,7 +17,6 @@ use kinds::uneven::Uneven;
 use kinds::uneven::UnevenBehaviour;
 use parts::making::check;
 use parts::making::make;
-use chip::part::socket::PartSocket;
 use parts::run::run;
 use std::alloc::AllocError;
 use std::alloc::Global;
@@ -26,23 +26,40 @@ fn memory<K: PartKind>(heap: Global, setup: &Setup) -> Result<Vec<u8>, AllocErro
     vec![in heap; setup.fill; 128 * K::sector_count() as usize]
 }
 
-fn play_kind<K: PartKind>(heap: Global, setup: &Setup, calls: &[Call]) -> Result<Vec<Answer>, AllocError> {
+fn play_kind<K: PartKind>(
+    heap: Global,
+    setup: &Setup,
+    calls: &[Call],
+) -> Result<Vec<Answer>, AllocError> {
     let mut memory = memory::<K>(heap, setup)?;
     match &setup.timing {
-        Timing::Steady(time) => run(heap, &mut make::<K, Steady>(&mut memory, Steady::new(*time)), calls),
-        Timing::Uneven(times) => run(heap, &mut make::<K, Uneven>(&mut memory, Uneven::new(times)), calls),
+        Timing::Steady(time) => run(
+            heap,
+            &mut make::<K, Steady>(&mut memory, Steady::new(*time)),
+            calls,
+        ),
+        Timing::Uneven(times) => run(
+            heap,
+            &mut make::<K, Uneven>(&mut memory, Uneven::new(times)),
+            calls,
+        ),
     }
 }
 
 // The answers of the calls on a new part.
 pub(crate) fn play(heap: Global, setup: &Setup, calls: &[Call]) -> Result<Vec<Answer>, AnyError> {
-    Ok(match setup.chip {
-        Chip::At29c010a => play_kind::<At29c010a>(heap, setup, calls)?,
-        Chip::Bench => play_kind::<Bench>(heap, setup, calls)?,
-    })
+    Ok(
+        match setup.chip {
+            Chip::At29c010a => play_kind::<At29c010a>(heap, setup, calls)?,
+            Chip::Bench => play_kind::<Bench>(heap, setup, calls)?,
+        },
+    )
 }
 
-fn refusal_of_kind<K: PartKind>(heap: Global, setup: &Setup) -> Result<Option<PartRefusal>, AllocError> {
+fn refusal_of_kind<K: PartKind>(
+    heap: Global,
+    setup: &Setup,
+) -> Result<Option<PartRefusal>, AllocError> {
     let memory = memory::<K>(heap, setup)?;
     let checked = match &setup.timing {
         Timing::Steady(time) => check::<K, Steady>(&memory, &Steady::new(*time)),
@@ -53,8 +70,10 @@ fn refusal_of_kind<K: PartKind>(heap: Global, setup: &Setup) -> Result<Option<Pa
 
 // What the check of the part has against it.
 pub(crate) fn refusal(heap: Global, setup: &Setup) -> Result<Option<PartRefusal>, AnyError> {
-    Ok(match setup.chip {
-        Chip::At29c010a => refusal_of_kind::<At29c010a>(heap, setup)?,
-        Chip::Bench => refusal_of_kind::<Bench>(heap, setup)?,
-    })
+    Ok(
+        match setup.chip {
+            Chip::At29c010a => refusal_of_kind::<At29c010a>(heap, setup)?,
+            Chip::Bench => refusal_of_kind::<Bench>(heap, setup)?,
+        },
+    )
 }

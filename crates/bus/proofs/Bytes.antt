@@ -57,8 +57,8 @@ answered (Calls.Wait g) o c d m = m .0
 answered Calls.Identify o c d (r, m, e) = m .0
 
 -- a load joined to a period, on a part of n sectors
-abbrev joinedLoad : ℕ → List ℕ → State → Period → Load → Chip → Chip
-joinedLoad n fill s p l c = record {
+abbrev joined : ℕ → List ℕ → State → Period → Load → Chip → Chip
+joined n fill s p l c = record {
   sectors = c .sectors;
   device = c .device;
   settled = settle n fill s (extend n p l);
@@ -117,13 +117,13 @@ module _ (n : ℕ) (f : Flags) (a first : ℕ) where
 
   begin-inv : (l : Load) (g : ℕ) (fill : List ℕ) → length fill ≡ 128 → l .address < 128 * n → (b : Told) (c : Chip) →
       c .sectors ≡ n → Good n f a first (c .settled) (all b) → Idle (later g b) →
-      Inv (tellLoad l g None b) (joinedLoad (c .sectors) fill (c .settled) fresh l c)
+      Inv (tellLoad l g None b) (joined (c .sectors) fill (c .settled) fresh l c)
   begin-inv l g fill fl within b c e good i =
       let b′ : Told = record { earlier = all b; latest = l ∷ []; since = 0 } in
-      let at-n : Inv b′ (joinedLoad n fill (c .settled) fresh l c) =
+      let at-n : Inv b′ (joined n fill (c .settled) fresh l c) =
       (e, good-step n f a first (c .settled) (all b) (l ∷ []) fill fl (within, tt) good, (refl, refl, omega arith, refl, good, (within, tt))) in
-      subst (λ (x : Told). Inv x (joinedLoad (c .sectors) fill (c .settled) fresh l c)) (opens l g b i)
-      (subst (λ (m : ℕ). Inv b′ (joinedLoad m fill (c .settled) fresh l c)) (sym e) at-n)
+      subst (λ (x : Told). Inv x (joined (c .sectors) fill (c .settled) fresh l c)) (opens l g b i)
+      (subst (λ (m : ℕ). Inv b′ (joined m fill (c .settled) fresh l c)) (sym e) at-n)
 
   -- an accepted load joins the open period
   joins : (l : Load) (g : ℕ) (b : Told) → isNil (b .latest) ≡ false → b .since + g ≤ 150 → record { earlier = b .earlier; latest = l ∷ b .latest; since = 0 } ≡ tellLoad l g None b
@@ -131,14 +131,14 @@ module _ (n : ℕ) (f : Flags) (a first : ℕ) where
 
   join-inv : (l : Load) (g : ℕ) (fill : List ℕ) → length fill ≡ 128 → l .address < 128 * n → (b : Told) (c : Chip) (s : State) (p : Period) (age : ℕ) →
       c .sectors ≡ n → OpenAt (opened s p age) (later g b) →
-      Inv (tellLoad l g None b) (joinedLoad (c .sectors) fill s p l c)
+      Inv (tellLoad l g None b) (joined (c .sectors) fill s p l c)
   join-inv l g fill fl within b c s p age e h =
       let b′ : Told = record { earlier = b .earlier; latest = l ∷ b .latest; since = 0 } in
-      let at-sum : Inv b′ (joinedLoad n fill s (summary n (b .latest)) l c) =
+      let at-sum : Inv b′ (joined n fill s (summary n (b .latest)) l c) =
       (e, good-step n f a first s (b .earlier) (l ∷ b .latest) fill fl (within, h .5) (h .4), (refl, refl, omega arith, refl, h .4, (within, h .5))) in
-      let at-p = subst (λ (q : Period). Inv b′ (joinedLoad n fill s q l c)) (sym (h .3)) at-sum in
-      subst (λ (x : Told). Inv x (joinedLoad (c .sectors) fill s p l c)) (joins l g b (h .0) (omega (arith, h .1, h .2)))
-      (subst (λ (m : ℕ). Inv b′ (joinedLoad m fill s p l c)) (sym e) at-p)
+      let at-p = subst (λ (q : Period). Inv b′ (joined n fill s q l c)) (sym (h .3)) at-sum in
+      subst (λ (x : Told). Inv x (joined (c .sectors) fill s p l c)) (joins l g b (h .0) (omega (arith, h .1, h .2)))
+      (subst (λ (m : ℕ). Inv b′ (joined m fill s p l c)) (sym e) at-p)
 
   -- what a load inside the part does, once its gap has passed
   load-at : (l : Load) (g : ℕ) (fill : List ℕ) → length fill ≡ 128 → l .address < 128 * n → (b : Told) (c : Chip) (q : Phase) →
@@ -147,8 +147,8 @@ module _ (n : ℕ) (f : Flags) (a first : ℕ) where
   load-at l g fill fl within b c rest e good i x = begin-inv l g fill fl within b c e good (subst (λ (y : Phase). OpenAt y (later g b)) x i)
   load-at l g fill fl within b c (cycle u t) e good i x = (e, good, i)
   load-at l g fill fl within b c (opened s p age) e good i x = elim (cases-bool (completesReserved (p .head) l)) [
-    | inl y ↦ subst (λ (v : Bool). Inv (tellLoad l g (cond v (Some ReservedCode) None) b) (cond v c (joinedLoad (c .sectors) fill s p l c))) (sym y) (e, good, i)
-    | inr z ↦ subst (λ (v : Bool). Inv (tellLoad l g (cond v (Some ReservedCode) None) b) (cond v c (joinedLoad (c .sectors) fill s p l c))) (sym z)
+    | inl y ↦ subst (λ (v : Bool). Inv (tellLoad l g (cond v (Some ReservedCode) None) b) (cond v c (joined (c .sectors) fill s p l c))) (sym y) (e, good, i)
+    | inr z ↦ subst (λ (v : Bool). Inv (tellLoad l g (cond v (Some ReservedCode) None) b) (cond v c (joined (c .sectors) fill s p l c))) (sym z)
         (join-inv l g fill fl within b c s p age e (subst (λ (y : Phase). OpenAt y (later g b)) x i))
   ]
 

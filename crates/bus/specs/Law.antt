@@ -73,15 +73,14 @@ abbrev pub lastLoadAt : ℕ → List Load → Option ℕ
 lastLoadAt a [] = None
 lastLoadAt a (l ∷ ls) = cond (eqb (l .address) a) (Some (l .byte)) (lastLoadAt a ls)
 
--- on a part of n sectors with these first flags, the period at place i of the list; the periods before it stand after it
-module _ (n : ℕ) (f : Flags) (ps : List (List Load)) (i a : ℕ) where
-  abbrev pub CouldWrite : Type 0
-  CouldWrite = (i < length ps) × (couldWrite n (flagsAfter n f (drop (suc i) ps)) (getD ps i []) a ≡ true)
+-- On a part of n sectors with these first flags, the period at place i of the list could write the byte at a. The periods before it
+-- stand after it in the list.
+abbrev pub CouldWrite : ℕ → Flags → List (List Load) → ℕ → ℕ → Type 0
+CouldWrite n f ps i a = (i < length ps) × (couldWrite n (flagsAfter n f (drop (suc i) ps)) (getD ps i []) a ≡ true)
 
--- the latest period that could write the byte at a
-module _ (n : ℕ) (f : Flags) (ps : List (List Load)) (i a : ℕ) where
-  abbrev pub LatestWriter : Type 0
-  LatestWriter = CouldWrite n f ps i a × ((j : ℕ) → j < i → CouldWrite n f ps j a → ⊥)
+-- it is the latest that could: none of those that stand before it in the list, the later ones, could
+abbrev pub LatestWriter : ℕ → Flags → List (List Load) → ℕ → ℕ → Type 0
+LatestWriter n f ps i a = CouldWrite n f ps i a × ((j : ℕ) → j < i → CouldWrite n f ps j a → ⊥)
 
 -- the settled byte at a
 abbrev pub byteAt : Chip → ℕ → ℕ

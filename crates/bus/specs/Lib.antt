@@ -2,6 +2,7 @@ pub mod Meaning
 pub mod Codes
 pub mod Periods
 pub mod Outcomes
+pub mod Closing
 pub mod Time
 pub mod Choices
 pub mod Status

@@ -16,6 +16,7 @@ use texts::bus_calls::BusCallDisplay;
 
 // The chip's 1,024 sectors, and how long a cycle takes it in microseconds.
 const CHIP_BYTES: usize = 1024 * 128;
+
 const CYCLE_TIME: u16 = 250;
 
 fn load(address: u32, byte: u8, gap: u16) -> Call {

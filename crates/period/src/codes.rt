@@ -22,26 +22,26 @@ fn second() -> Load
     }
 }
 
-pub fn unlock() -> [Load; 2]
+pub(crate) fn unlock() -> [Load; 2]
     ensures { λ r. ⌜ r ≡ unlock ⌝ }
 {
     [first(0xAA), second()]
 }
 
-pub fn unlock_twice() -> [Load; 5]
+pub(crate) fn unlock_twice() -> [Load; 5]
     ensures { λ r. ⌜ r ≡ unlockTwice ⌝ }
 {
     [first(0xAA), second(), first(0x80), first(0xAA), second()]
 }
 
-pub fn coded() -> [Load; 3]
+pub(crate) fn coded() -> [Load; 3]
     ensures { λ r. ⌜ r ≡ codedCode ⌝ }
 {
     [first(0xAA), second(), first(0xA0)]
 }
 
 // A code of six loads, which ends with this byte.
-pub fn six(byte: u8) -> [Load; 6]
+pub(crate) fn six(byte: u8) -> [Load; 6]
     ensures { λ r. ⌜ r ≡ sixCode byte ⌝ }
 {
     [

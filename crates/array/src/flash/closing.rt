@@ -4,10 +4,12 @@ ghost use mathlib.Core.List.{List};
 ghost use Prim.Native.Nat.{ℕ, _<_};
 ghost use Rattle.std.specs.declared.option.Option.{Option};
 ghost use Rattle.bus.specs.Outcomes.{isLocked, outcomeOf};
+ghost use Rattle.bus.specs.Closing.{sectorTold, closedAs};
 ghost use Rattle.period.specs.Meaning.{periodOf, dataAt};
 ghost use Rattle.array.specs.Filling.{programmedBy, settleBy};
 ghost use Rattle.array.specs.Meaning.{countOf, stateOf};
 use super::FlashArray;
+use bus::closed::Closed;
 use bus::kind::Kind;
 use bus::outcome::Outcome;
 use kinds::behaviour::Behaviour;
@@ -35,6 +37,32 @@ impl FlashArray<'_> {
             (_, Target::Several) => Outcome::Mixed,
             (_, Target::Sector(sector)) if self.is_locked(sector) => Outcome::Locked,
             _ => Outcome::Written,
+        }
+    }
+
+    // The sector that is told of a period with this result.
+    fn sector_told(outcome: Outcome, target: Target) -> Option<u32>
+        ensures { λ r. ⌜ ((page : List (Option ℕ)) → r ≡ sectorTold outcome (dataAt target page)) ⌝ }
+    {
+        match (outcome, target) {
+            (Outcome::Locked | Outcome::Written, Target::Sector(sector)) => Some(sector),
+            _ => None,
+        }
+    }
+
+    // What the period comes to if it closes as it stands.
+    pub fn closing(&self, period: &OpenPeriod) -> Closed
+        ensures { λ r. ⌜ r ≡ closedAs (countOf (now (self .entry))) (stateOf (now (self .entry))) (periodOf (countOf (now (self .entry))) (now (period .entry))) ⌝ }
+    {
+        let sectors = self.sectors();
+        let kind = period.kind(sectors);
+        let target = period.target(sectors);
+        let outcome = self.outcome(kind, target);
+        let sector = Self::sector_told(outcome, target);
+        Closed {
+            kind,
+            outcome,
+            sector,
         }
     }
 

@@ -4,6 +4,7 @@ ghost use mathlib.Core.Bool.{not};
 ghost use Prim.Native.Nat.{ℕ, _≤_, _<_, _*_, _+_, _-_, _/_, min};
 ghost use lib.Dec.{ltb, leb};
 ghost use Rattle.bus.specs.Meaning as Meant;
+ghost use Rattle.bus.specs.Closing.{due};
 ghost use Rattle.bus.specs.Periods.{fresh};
 ghost use Rattle.bus.specs.Time.{running};
 ghost use Rattle.bus.specs.Status.{bit, counted};
@@ -16,6 +17,7 @@ use super::Part;
 use crate::phase::Event;
 use crate::phase::Phase;
 use crate::phase::Reply;
+use bus::closed::Closed;
 use bus::load::Load;
 use bus::refusal::BusRefusal;
 use kinds::behaviour::Behaviour;
@@ -56,6 +58,18 @@ impl<B: Behaviour + Drop> Part<'_, B> {
         ensures { λ r. ⌜ r ≡ leb (128 * countOf (now (self .entry))) address ⌝ }
     {
         address >= 128 * self.array.sectors()
+    }
+
+    // The period that a gap would close now.
+    pub fn due(&self, gap: u16) -> Option<Closed>
+        ensures { λ r. ⌜ r ≡ due gap (meant (B·Behaviour .style) (now (self .entry))) ⌝ }
+    {
+        match self.phase {
+            Phase::Open(age) if later(age, gap) > LOAD_WINDOW => Some(
+                self.array.closing(&self.period),
+            ),
+            _ => None,
+        }
     }
 
     // A cycle has run so far: it goes on, or the part is at rest.

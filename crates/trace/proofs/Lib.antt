@@ -1,0 +1,4 @@
+pub mod Placing
+pub mod Letters
+pub mod Ordering
+pub mod Saying

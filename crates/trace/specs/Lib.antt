@@ -1,0 +1,4 @@
+pub mod Naming
+pub mod Refusals
+pub mod Lines
+pub mod Laws
