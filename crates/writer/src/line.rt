@@ -35,7 +35,7 @@ fn gap(cycle: Cycle) -> u16
 
 impl Draft {
     // The line of a cycle.
-    pub fn of(cycle: Cycle) -> Draft
+    pub(crate) fn of(cycle: Cycle) -> Draft
         ensures text { λ r. ⌜ draftText r ≡ textOf cycle ⌝ }
         ensures reads { λ _. ⌜ (tooHigh cycle ≡ false → valueLine standardOrder (textOf cycle) ≡ Ok cycle) ⌝ }
     {
