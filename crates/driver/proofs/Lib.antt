@@ -1,0 +1,3 @@
+pub mod Fetching
+pub mod Putting
+pub mod Storing

@@ -1,0 +1,4 @@
+pub mod DriverRows
+pub mod Loading
+pub mod Settled
+pub mod Calls

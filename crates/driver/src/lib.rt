@@ -1,0 +1,5 @@
+// Rows of 128 bytes on any part in a socket.
+mod code;
+pub mod driver;
+mod lock;
+mod sector;

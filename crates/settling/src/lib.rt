@@ -1,0 +1,3 @@
+// Waiting until a part in a socket is at rest, by its toggle bit.
+mod poll;
+pub mod settle;
