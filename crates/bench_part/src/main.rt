@@ -1,4 +1,6 @@
 // Runs a script of bus calls on reference parts: each line of standard input is printed with its answer.
+#![tactic(auto)]
+
 mod play;
 mod script;
 

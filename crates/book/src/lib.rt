@@ -1,4 +1,6 @@
 // A book: records of one kind, in memory that the caller lends.
+#![tactic(auto)]
+
 ghost use Rattle.std.specs.Prelude.{◌≡◌, ◌+◌, ◌<◌, ◌≤◌, [], ◌∷◌, ◌++◌, length, take, ◌==◌, nat_le};
 ghost use Rattle.book.specs.Records.{records, capacity, number_of, Added, Found};
 

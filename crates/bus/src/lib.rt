@@ -1,5 +1,7 @@
 // The bus of a page-write flash chip: loads, load periods and their results, the interface to a part, and the law that
 // every part keeps over whole lists of bus calls.
+#![tactic(auto)]
+
 pub mod call;
 pub mod closed;
 pub mod identity;

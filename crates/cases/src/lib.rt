@@ -1,2 +1,4 @@
 // Worked cases of the definitions.
+#![tactic(auto)]
+
 pub mod worked;

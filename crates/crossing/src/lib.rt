@@ -1,2 +1,4 @@
 // The layer that shows the bytes of any store through a wiring.
+#![tactic(auto)]
+
 pub mod crossing;

@@ -1,4 +1,6 @@
 // Rows of 128 bytes on any part in a socket.
+#![tactic(auto)]
+
 mod code;
 pub mod driver;
 mod lock;

@@ -1,4 +1,6 @@
 // A line of text as four fields, and the values that the fields of a trace hold.
+#![tactic(auto)]
+
 mod line;
 mod numerals;
 mod values;

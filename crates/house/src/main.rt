@@ -1,4 +1,6 @@
 // A house's settings: a chip on its bus, then the rows of two heating modules' chips behind one crossed board.
+#![tactic(auto)]
+
 mod bench;
 mod house;
 mod report;

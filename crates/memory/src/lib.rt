@@ -1,2 +1,4 @@
 // A store of rows over lent memory.
+#![tactic(auto)]
+
 pub mod store;

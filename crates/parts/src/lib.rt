@@ -1,3 +1,5 @@
 // The reference parts: checking and making them, and lists of bus calls on them.
+#![tactic(auto)]
+
 pub mod making;
 pub mod run;

@@ -1,3 +1,5 @@
 // The open load period as a part keeps it: constant work for each load.
+#![tactic(auto)]
+
 mod codes;
 pub mod open;

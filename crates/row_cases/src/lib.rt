@@ -1,3 +1,5 @@
 // Worked cases of stores, wirings and layers.
+#![tactic(auto)]
+
 #[cfg(test)]
 mod tests;

@@ -1,3 +1,5 @@
 // Lists of row calls on any store, and the law that they keep.
+#![tactic(auto)]
+
 pub mod calls;
 pub mod perform;

@@ -1,3 +1,5 @@
 // Calls and answers as a support engineer reads them.
+#![tactic(auto)]
+
 pub mod bus_calls;
 pub mod rows;

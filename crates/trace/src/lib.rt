@@ -1,4 +1,6 @@
 // A trace: a line of column names, then one line for each bus cycle.
+#![tactic(auto)]
+
 mod column;
 mod cycle;
 mod lines;

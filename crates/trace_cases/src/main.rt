@@ -1,5 +1,7 @@
 // Reads cases from standard input and prints what each line of a trace says; then some cycles that are not written.
 // A case is one line: `=` and a line of names, `>` and a line of values, or a comment.
+#![tactic(auto)]
+
 use std::io;
 use std::io::{BufRead, BufReader};
 use trace::{Columns, Cycle, LineRefusal};

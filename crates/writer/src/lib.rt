@@ -1,4 +1,6 @@
 // One cycle as a line of a trace, in the order op, gap, addr, data.
+#![tactic(auto)]
+
 mod digits;
 mod draft;
 mod line;
