@@ -4,11 +4,11 @@ use crate::refusal::BusRefusal;
 use crate::socket::Socket;
 
 impl<'a, S: Socket> Socket for &'a mut S {
-    ghost meaning = { λ s. S.Socket.meaning s.now };
+    ghost meaning = { λ s. S.meaning s.now };
 
-    ghost lawful = { λ s. S.Socket.lawful s.now };
+    ghost lawful = { λ s. S.lawful s.now };
 
-    ghost promise = { λ s x a t. S.Socket.promise s.now x a t.now };
+    ghost promise = { λ s x a t. S.promise s.now x a t.now };
 
     fn sectors(&self) -> u32 {
         (**self).sectors()

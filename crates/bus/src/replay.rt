@@ -30,8 +30,8 @@ fn read_answer(res: Result<u8, BusRefusal>) -> Answer
 
 // Makes one call, and gives its answer.
 pub fn make_call<S: Socket>(socket: &mut S, call: Call) -> Answer
-    ensures answered { Answered call result (meaning socket.old) (meaning socket.new) }
-    ensures own { promise socket.old call result socket.new }
+    ensures answered { Answered call result (S.meaning socket.old) (S.meaning socket.new) }
+    ensures own { S.promise socket.old call result socket.new }
 {
     match call {
         Call::Load(load, gap) => load_answer(socket.load(load.address, load.byte, gap)),
@@ -53,9 +53,9 @@ pub fn replay<S: Socket>(
     calls: &[Call],
 ) -> Result<Vec<Answer>, AllocError>
     ensures each { IfOk result (λ v. length v.items ≡ length calls.now) }
-    ensures ran { IfOk result (λ v. Run (history calls.now v.items) (meaning socket.old) (meaning socket.new)) }
-    ensures own { IfOk result (λ v. Kept promise (history calls.now v.items) socket.old socket.new) }
-    ensures law { IfOk result (λ v. (meaning socket.old).phase ≡ Phase.rest → Law (history calls.now v.items) (meaning socket.old) (meaning socket.new)) }
+    ensures ran { IfOk result (λ v. Run (history calls.now v.items) (S.meaning socket.old) (S.meaning socket.new)) }
+    ensures own { IfOk result (λ v. Kept S.promise (history calls.now v.items) socket.old socket.new) }
+    ensures law { IfOk result (λ v. (S.meaning socket.old).phase ≡ Phase.rest → Law (history calls.now v.items) (S.meaning socket.old) (S.meaning socket.new)) }
     ensures refused { OnErr result (socket.new ≡ socket.old) }
 {
     let mut answers = Vec::with_capacity(heap, calls.len())?;

@@ -18,18 +18,18 @@ pub enum Command {
 
 // One load.
 pub(crate) fn put<S: Socket>(socket: &mut S, address: u32, byte: u8)
-    requires { address < 128 * (meaning socket.old).sectors }
-    ensures puts { Puts (at address byte) (meaning socket.old) (meaning socket.new) }
-    ensures sectors { (meaning socket.new).sectors ≡ (meaning socket.old).sectors }
+    requires { address < 128 * (S.meaning socket.old).sectors }
+    ensures puts { Puts (at address byte) (S.meaning socket.old) (S.meaning socket.new) }
+    ensures sectors { (S.meaning socket.new).sectors ≡ (S.meaning socket.old).sectors }
 {
     let _ = socket.load(address, byte, 1);
 }
 
 // Opens a period with the two loads that every code begins with.
 fn unlock<S: Socket>(socket: &mut S)
-    requires rests { (meaning socket.old).phase ≡ rest }
-    requires some { 256 ≤ (meaning socket.old).sectors }
-    ensures { Opened (meaning socket.old) (meaning socket.new) (extend_all (meaning socket.old).sectors fresh unlock_code) }
+    requires rests { (S.meaning socket.old).phase ≡ rest }
+    requires some { 256 ≤ (S.meaning socket.old).sectors }
+    ensures { Opened (S.meaning socket.old) (S.meaning socket.new) (extend_all (S.meaning socket.old).sectors fresh unlock_code) }
 {
     put(socket, 0x5555, 0xAA);
     put(socket, 0x2AAA, 0x55);
@@ -37,9 +37,9 @@ fn unlock<S: Socket>(socket: &mut S)
 
 // Opens a period of protected programming.
 pub(crate) fn open_coded<S: Socket>(socket: &mut S)
-    requires rests { (meaning socket.old).phase ≡ rest }
-    requires some { 256 ≤ (meaning socket.old).sectors }
-    ensures { Coding coded (meaning socket.old) (meaning socket.new) none }
+    requires rests { (S.meaning socket.old).phase ≡ rest }
+    requires some { 256 ≤ (S.meaning socket.old).sectors }
+    ensures { Coding coded (S.meaning socket.old) (S.meaning socket.new) none }
 {
     unlock(socket);
     put(socket, 0x5555, 0xA0);
@@ -47,9 +47,9 @@ pub(crate) fn open_coded<S: Socket>(socket: &mut S)
 
 // Opens a period with the first five loads of a code of six.
 fn unlock_twice<S: Socket>(socket: &mut S)
-    requires rests { (meaning socket.old).phase ≡ rest }
-    requires some { 256 ≤ (meaning socket.old).sectors }
-    ensures { Opened (meaning socket.old) (meaning socket.new) (extend_all (meaning socket.old).sectors fresh unlock_twice) }
+    requires rests { (S.meaning socket.old).phase ≡ rest }
+    requires some { 256 ≤ (S.meaning socket.old).sectors }
+    ensures { Opened (S.meaning socket.old) (S.meaning socket.new) (extend_all (S.meaning socket.old).sectors fresh unlock_twice) }
 {
     put(socket, 0x5555, 0xAA);
     put(socket, 0x2AAA, 0x55);
@@ -60,9 +60,9 @@ fn unlock_twice<S: Socket>(socket: &mut S)
 
 // Opens a period that lifts data protection.
 pub(crate) fn open_lift<S: Socket>(socket: &mut S)
-    requires rests { (meaning socket.old).phase ≡ rest }
-    requires some { 256 ≤ (meaning socket.old).sectors }
-    ensures { Coding lift (meaning socket.old) (meaning socket.new) none }
+    requires rests { (S.meaning socket.old).phase ≡ rest }
+    requires some { 256 ≤ (S.meaning socket.old).sectors }
+    ensures { Coding lift (S.meaning socket.old) (S.meaning socket.new) none }
 {
     unlock_twice(socket);
     put(socket, 0x5555, 0x20);
@@ -70,9 +70,9 @@ pub(crate) fn open_lift<S: Socket>(socket: &mut S)
 
 // Loads the lockout code of the lower boot block.
 fn send_low<S: Socket>(socket: &mut S)
-    requires rests { (meaning socket.old).phase ≡ rest }
-    requires some { 256 ≤ (meaning socket.old).sectors }
-    ensures { Sent (meaning socket.old) (meaning socket.new) (after_lock_low (meaning socket.old).settled) }
+    requires rests { (S.meaning socket.old).phase ≡ rest }
+    requires some { 256 ≤ (S.meaning socket.old).sectors }
+    ensures { Sent (S.meaning socket.old) (S.meaning socket.new) (after_lock_low (S.meaning socket.old).settled) }
 {
     unlock_twice(socket);
     put(socket, 0x5555, 0x40);
@@ -81,10 +81,10 @@ fn send_low<S: Socket>(socket: &mut S)
 
 // Loads the lockout code of the upper boot block, which ends at the last address.
 fn send_high<S: Socket>(socket: &mut S)
-    requires rests { (meaning socket.old).phase ≡ rest }
-    requires some { 256 ≤ (meaning socket.old).sectors }
-    requires few { (meaning socket.old).sectors ≤ 8192 }
-    ensures { Sent (meaning socket.old) (meaning socket.new) (after_lock_high (meaning socket.old).settled) }
+    requires rests { (S.meaning socket.old).phase ≡ rest }
+    requires some { 256 ≤ (S.meaning socket.old).sectors }
+    requires few { (S.meaning socket.old).sectors ≤ 8192 }
+    ensures { Sent (S.meaning socket.old) (S.meaning socket.new) (after_lock_high (S.meaning socket.old).settled) }
 {
     let last = 128 * (*socket).sectors() - 1;
     unlock_twice(socket);
@@ -94,10 +94,10 @@ fn send_high<S: Socket>(socket: &mut S)
 
 // Loads the code of the command. Once the part has settled, the command is done.
 pub(crate) fn send<S: Socket>(socket: &mut S, command: Command)
-    requires rests { (meaning socket.old).phase ≡ rest }
-    requires some { 256 ≤ (meaning socket.old).sectors }
-    requires few { (meaning socket.old).sectors ≤ 8192 }
-    ensures { Sent (meaning socket.old) (meaning socket.new) (after_command command (meaning socket.old).settled) }
+    requires rests { (S.meaning socket.old).phase ≡ rest }
+    requires some { 256 ≤ (S.meaning socket.old).sectors }
+    requires few { (S.meaning socket.old).sectors ≤ 8192 }
+    ensures { Sent (S.meaning socket.old) (S.meaning socket.new) (after_command command (S.meaning socket.old).settled) }
 {
     match command {
         Command::Protect => open_coded(socket),

@@ -22,8 +22,8 @@ fn in_locked_block(id: Identity, sectors: u32, sector: usize) -> bool
 
 // Whether a sector is locked, told by identification.
 pub(crate) fn ask_lock<S: Socket>(socket: &mut S, sector: usize) -> bool
-    ensures tells { result ≡ is_locked (meaning socket.old).sectors (meaning socket.old).settled sector }
-    ensures after { meaning socket.new ≡ with_phase (meaning socket.old) rest }
+    ensures tells { result ≡ is_locked (S.meaning socket.old).sectors (S.meaning socket.old).settled sector }
+    ensures after { S.meaning socket.new ≡ with_phase (S.meaning socket.old) rest }
 {
     let id = socket.identify();
     in_locked_block(id, (*socket).sectors(), sector)

@@ -12,9 +12,9 @@ use rows::store::ROW_BYTES;
 
 // The byte at an address, read with gap 1.
 fn byte_at<S: Socket>(socket: &mut S, address: u32) -> u8
-    requires rests { (meaning socket.old).phase ≡ rest }
-    requires within { address < 128 * (meaning socket.old).sectors }
-    ensures { Gave (meaning socket.old) (meaning socket.new) address result }
+    requires rests { (S.meaning socket.old).phase ≡ rest }
+    requires within { address < 128 * (S.meaning socket.old).sectors }
+    ensures { Gave (S.meaning socket.old) (S.meaning socket.new) address result }
 {
     match socket.read(address, 1) {
         Ok(byte) => byte,
@@ -24,11 +24,11 @@ fn byte_at<S: Socket>(socket: &mut S, address: u32) -> u8
 
 // Reads each byte of a sector into the place.
 fn copy_sector<S: Socket>(socket: &mut S, sector: usize, place: &mut [u8])
-    requires rests { (meaning socket.old).phase ≡ rest }
-    requires within { sector < (meaning socket.old).sectors }
+    requires rests { (S.meaning socket.old).phase ≡ rest }
+    requires within { sector < (S.meaning socket.old).sectors }
     requires room { 128 ≤ length place.old }
-    ensures quiet { Quiet (meaning socket.old) (meaning socket.new) 128 }
-    ensures fills { place.new ≡ row_of (meaning socket.old).settled.bytes sector ++ drop 128 place.old }
+    ensures quiet { Quiet (S.meaning socket.old) (S.meaning socket.new) 128 }
+    ensures fills { place.new ≡ row_of (S.meaning socket.old).settled.bytes sector ++ drop 128 place.old }
 {
     for i in 0..ROW_BYTES {
         place[i] = byte_at(socket, (ROW_BYTES * sector + i) as u32);
@@ -37,21 +37,21 @@ fn copy_sector<S: Socket>(socket: &mut S, sector: usize, place: &mut [u8])
 
 // As `copy_sector`, with the bytes told as the driver's rows tell them: loaded back, they change nothing.
 pub(crate) fn read_sector<S: Socket>(socket: &mut S, sector: usize, place: &mut [u8])
-    requires rests { (meaning socket.old).phase ≡ rest }
-    requires within { sector < (meaning socket.old).sectors }
+    requires rests { (S.meaning socket.old).phase ≡ rest }
+    requires within { sector < (S.meaning socket.old).sectors }
     requires room { 128 ≤ length place.old }
-    ensures quiet { Quiet (meaning socket.old) (meaning socket.new) 128 }
-    ensures shows { place.new ≡ as_bytes (row_of (meaning socket.old).settled.bytes sector) ++ drop 128 place.old }
-    ensures back { with_sector (meaning socket.old).settled.bytes sector place.new ≡ (meaning socket.old).settled.bytes }
+    ensures quiet { Quiet (S.meaning socket.old) (S.meaning socket.new) 128 }
+    ensures shows { place.new ≡ as_bytes (row_of (S.meaning socket.old).settled.bytes sector) ++ drop 128 place.old }
+    ensures back { with_sector (S.meaning socket.old).settled.bytes sector place.new ≡ (S.meaning socket.old).settled.bytes }
 {
     copy_sector(socket, sector, place);
 }
 
 // Loads each byte of a page into an open period, after its code.
 fn load_bytes<S: Socket>(socket: &mut S, sector: usize, bytes: &[u8])
-    requires within { sector < (meaning socket.old).sectors }
+    requires within { sector < (S.meaning socket.old).sectors }
     requires whole { length bytes.now ≡ 128 }
-    ensures { (k : Code) (c : Chip) → Coding k c (meaning socket.old) none → Coding k c (meaning socket.new) (first_of sector bytes.now 128) }
+    ensures { (k : Code) (c : Chip) → Coding k c (S.meaning socket.old) none → Coding k c (S.meaning socket.new) (first_of sector bytes.now 128) }
 {
     for (i, byte) in bytes.iter().enumerate() {
         put(socket, (ROW_BYTES * sector + i) as u32, *byte);
@@ -60,22 +60,22 @@ fn load_bytes<S: Socket>(socket: &mut S, sector: usize, bytes: &[u8])
 
 // As `load_bytes`, with what the period then leaves settled, if the part was c before it.
 fn load_page<S: Socket>(socket: &mut S, sector: usize, bytes: &[u8])
-    requires within { sector < (meaning socket.old).sectors }
+    requires within { sector < (S.meaning socket.old).sectors }
     requires whole { length bytes.now ≡ 128 }
-    ensures programs { (c : Chip) → Coding coded c (meaning socket.old) none → is_locked c.sectors c.settled sector ≡ false → length c.settled.bytes ≡ 128 * c.sectors → sector < c.sectors → Programs c (meaning socket.new) sector bytes.now }
-    ensures lifts { (c : Chip) → Coding lift c (meaning socket.old) none → is_locked c.sectors c.settled sector ≡ false → with_sector c.settled.bytes sector bytes.now ≡ c.settled.bytes → Sent c (meaning socket.new) (after_lift c.settled) }
+    ensures programs { (c : Chip) → Coding coded c (S.meaning socket.old) none → is_locked c.sectors c.settled sector ≡ false → length c.settled.bytes ≡ 128 * c.sectors → sector < c.sectors → Programs c (S.meaning socket.new) sector bytes.now }
+    ensures lifts { (c : Chip) → Coding lift c (S.meaning socket.old) none → is_locked c.sectors c.settled sector ≡ false → with_sector c.settled.bytes sector bytes.now ≡ c.settled.bytes → Sent c (S.meaning socket.new) (after_lift c.settled) }
 {
     load_bytes(socket, sector, bytes);
 }
 
 // Programs a sector: once the part has settled, the sector has the bytes and the part is protected.
 pub(crate) fn write_sector<S: Socket>(socket: &mut S, sector: usize, bytes: &[u8])
-    requires rests { (meaning socket.old).phase ≡ rest }
-    requires some { 256 ≤ (meaning socket.old).sectors }
-    requires within { sector < (meaning socket.old).sectors }
+    requires rests { (S.meaning socket.old).phase ≡ rest }
+    requires some { 256 ≤ (S.meaning socket.old).sectors }
+    requires within { sector < (S.meaning socket.old).sectors }
     requires whole { length bytes.now ≡ 128 }
-    requires free { is_locked (meaning socket.old).sectors (meaning socket.old).settled sector ≡ false }
-    ensures { Programs (meaning socket.old) (meaning socket.new) sector bytes.now }
+    requires free { is_locked (S.meaning socket.old).sectors (S.meaning socket.old).settled sector ≡ false }
+    ensures { Programs (S.meaning socket.old) (S.meaning socket.new) sector bytes.now }
 {
     open_coded(socket);
     load_page(socket, sector, bytes);
@@ -83,11 +83,11 @@ pub(crate) fn write_sector<S: Socket>(socket: &mut S, sector: usize, bytes: &[u8
 
 // Reads a sector and loads it back after the lift code: once the part has settled, it is unprotected and has the bytes that it had.
 pub(crate) fn lift_sector<S: Socket>(socket: &mut S, sector: usize)
-    requires rests { (meaning socket.old).phase ≡ rest }
-    requires some { 256 ≤ (meaning socket.old).sectors }
-    requires within { sector < (meaning socket.old).sectors }
-    requires free { is_locked (meaning socket.old).sectors (meaning socket.old).settled sector ≡ false }
-    ensures { SentBack (meaning socket.old) (meaning socket.new) (after_lift (meaning socket.old).settled) }
+    requires rests { (S.meaning socket.old).phase ≡ rest }
+    requires some { 256 ≤ (S.meaning socket.old).sectors }
+    requires within { sector < (S.meaning socket.old).sectors }
+    requires free { is_locked (S.meaning socket.old).sectors (S.meaning socket.old).settled sector ≡ false }
+    ensures { SentBack (S.meaning socket.old) (S.meaning socket.new) (after_lift (S.meaning socket.old).settled) }
 {
     let mut page = [0; ROW_BYTES];
     read_sector(socket, sector, &mut page);

@@ -1,7 +1,7 @@
 use Rattle.std.proofs.Common.{◌≡◌, ℕ, suc, ◌+◌, ◌-◌, ◌<◌, ◌≤◌, Bool, true, false, cond, not, ◌&&◌, eqb, ltb, leb, ◌⊎◌, List, [], ◌∷◌, ◌++◌, length, get_or, take, drop, sym, refl, ap, ◌∙◌, inl, inr, append_assoc, append-nil, add-one, arith, length-drop, drop_of_length-le, length-take-le, take_all, drop-cons}
 use native.Mathlib.Nat.{sub-zero}
 use Rattle.std.proofs.lemmas.List.{take_more}
-use Rattle.std.proofs.lemmas.Bool.{ne_eqb, eq-eqb, and_left, and_right, not_true, le-leb, lt-leb, lt-ltb}
+use Rattle.std.proofs.lemmas.Bool.{ne_eqb, eq-eqb, and_left, and_right, not-true, le-leb, lt-leb, lt-ltb}
 use Rattle.fields.specs.Splitting.{parts, grown, printable, filled, are_four}
 use Rattle.fields.specs.Cutting.{no_front, is_one}
 
@@ -40,20 +40,20 @@ no_front_1 [] h = refl
 no_front_1 (a ∷ []) h = refl
 no_front_1 (a ∷ (b ∷ [])) h = refl
 no_front_1 (a ∷ (b ∷ (c ∷ []))) h = refl
-no_front_1 (a ∷ (b ∷ (c ∷ (d ∷ [])))) h = and_left (filled a) (filled b && (filled c && filled d)) (not_true (filled a) h)
+no_front_1 (a ∷ (b ∷ (c ∷ (d ∷ [])))) h = and_left (filled a) (filled b && (filled c && filled d)) (not-true (filled a) h)
 no_front_1 (a ∷ (b ∷ (c ∷ (d ∷ (e ∷ ps))))) h = refl
 
 pub no_front_2 : (a : List ℕ) (ps : List (List ℕ)) → no_front ps ≡ true → are_four (a ∷ ps) ≡ false
 no_front_2 a [] h = refl
 no_front_2 a (b ∷ []) h = refl
 no_front_2 a (b ∷ (c ∷ [])) h = refl
-no_front_2 a (b ∷ (c ∷ (d ∷ []))) h = and_right (filled a) (filled b && (filled c && filled d)) (and_left (filled b) (filled c && filled d) (not_true (filled b) h))
+no_front_2 a (b ∷ (c ∷ (d ∷ []))) h = and_right (filled a) (filled b && (filled c && filled d)) (and_left (filled b) (filled c && filled d) (not-true (filled b) h))
 no_front_2 a (b ∷ (c ∷ (d ∷ (e ∷ ps)))) h = refl
 
 pub no_front_3 : (a b : List ℕ) (ps : List (List ℕ)) → no_front ps ≡ true → are_four (a ∷ (b ∷ ps)) ≡ false
 no_front_3 a b [] h = refl
 no_front_3 a b (c ∷ []) h = refl
-no_front_3 a b (c ∷ (d ∷ [])) h = and_right (filled a) (filled b && (filled c && filled d)) (and_right (filled b) (filled c && filled d) (and_left (filled c) (filled d) (not_true (filled c) h)))
+no_front_3 a b (c ∷ (d ∷ [])) h = and_right (filled a) (filled b && (filled c && filled d)) (and_right (filled b) (filled c && filled d) (and_left (filled c) (filled d) (not-true (filled c) h)))
 no_front_3 a b (c ∷ (d ∷ (e ∷ ps))) h = refl
 
 pub print_more : (s : List ℕ) (i : ℕ) → i < length s → 32 ≤ get_or s i 0 → get_or s i 0 ≤ 126 → printable (drop i s) ≡ printable (drop (i + 1) s)

@@ -13,7 +13,7 @@ use kinds::refusal::PartRefusal;
 
 // Whether this memory and this behaviour make a part of the kind.
 pub fn check<K: PartKind, B: Behaviour>(memory: &[u8], behaviour: &B) -> Result<(), PartRefusal>
-    ensures { result_err result ≡ part_refusal K.PartKind.sectors memory.now (B.Behaviour.fault behaviour.now) }
+    ensures { result_err result ≡ part_refusal K.sectors memory.now (B.fault behaviour.now) }
 {
     if memory.len() != 128 * K::sector_count() as usize {
         return Err(PartRefusal::Memory);
@@ -24,7 +24,7 @@ pub fn check<K: PartKind, B: Behaviour>(memory: &[u8], behaviour: &B) -> Result<
 // A new part of the kind over this memory: unprotected, unlocked and at rest, its first contents the memory's bytes. Where the check
 // refuses, a part without sectors.
 pub fn make<'a, K: PartKind, B: Behaviour + Drop>(memory: &'a mut [u8], behaviour: B) -> Part<'a, B>
-    ensures chip { meant B.Behaviour.style result ≡ made_as B.Behaviour.style (part_refusal K.PartKind.sectors memory.old (B.Behaviour.fault behaviour)) K.PartKind.sectors K.PartKind.device memory.old }
+    ensures chip { meant B.style result ≡ made_as B.style (part_refusal K.sectors memory.old (B.fault behaviour)) K.sectors K.device memory.old }
     ensures behaviour { result.behaviour ≡ behaviour }
 {
     let sectors = match check::<K, B>(memory, &behaviour) {

@@ -18,10 +18,10 @@ pub fn run<B: Behaviour + Drop>(
     part: &mut Part<'_, B>,
     calls: &[Call],
 ) -> Result<Vec<Answer>, AllocError>
-    ensures answers { IfOk result (λ v. v.items ≡ answers_by B.Behaviour.style calls.now (B.Behaviour.times part.old.behaviour) (meant B.Behaviour.style part.old)) }
-    ensures chip { OnOk result (meant B.Behaviour.style part.new ≡ chip_by B.Behaviour.style calls.now (B.Behaviour.times part.old.behaviour) (meant B.Behaviour.style part.old)) }
-    ensures times { OnOk result (B.Behaviour.times part.new.behaviour ≡ times_by B.Behaviour.style calls.now (B.Behaviour.times part.old.behaviour) (meant B.Behaviour.style part.old)) }
-    ensures law { IfOk result (λ v. (meant B.Behaviour.style part.old).phase ≡ Phase.rest → Law (history calls.now v.items) (meant B.Behaviour.style part.old) (meant B.Behaviour.style part.new)) }
+    ensures answers { IfOk result (λ v. v.items ≡ answers_by B.style calls.now (B.times part.old.behaviour) (meant B.style part.old)) }
+    ensures chip { OnOk result (meant B.style part.new ≡ chip_by B.style calls.now (B.times part.old.behaviour) (meant B.style part.old)) }
+    ensures times { OnOk result (B.times part.new.behaviour ≡ times_by B.style calls.now (B.times part.old.behaviour) (meant B.style part.old)) }
+    ensures law { IfOk result (λ v. (meant B.style part.old).phase ≡ Phase.rest → Law (history calls.now v.items) (meant B.style part.old) (meant B.style part.new)) }
     ensures refused { OnErr result (part.new ≡ part.old) }
 {
     replay(heap, part, calls)

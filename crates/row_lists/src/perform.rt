@@ -8,7 +8,7 @@ use std::alloc::{AllocError, Global};
 
 // Makes one call.
 pub fn make<S: Store>(store: &mut S, call: RowCall) -> RowAnswer
-    ensures { Made (meaning store.old) (meaning store.new) call result }
+    ensures { Made (S.meaning store.old) (S.meaning store.new) call result }
 {
     match call {
         RowCall::CountRows => RowAnswer::Count(store.rows()),
@@ -28,7 +28,7 @@ pub fn perform<S: Store>(
     store: &mut S,
     calls: Vec<RowCall>,
 ) -> Result<Vec<RowAnswer>, AllocError>
-    ensures { MatchResult result (λ answers. Performed (meaning store.old) (meaning store.new) calls.items answers.items) (λ _. store.new ≡ store.old) }
+    ensures { MatchResult result (λ answers. Performed (S.meaning store.old) (S.meaning store.new) calls.items answers.items) (λ _. store.new ≡ store.old) }
 {
     let mut answers = Vec::with_capacity(heap, calls.len())?;
     for call in calls {

@@ -3,9 +3,9 @@ use crate::refusal::RowRefusal;
 use crate::store::Store;
 
 impl<'a, S: Store> Store for &'a mut S {
-    ghost meaning = { λ s. S.Store.meaning s.now };
+    ghost meaning = { λ s. S.meaning s.now };
 
-    ghost lawful = { λ s. S.Store.lawful s.now };
+    ghost lawful = { λ s. S.lawful s.now };
 
     fn rows(&mut self) -> usize {
         (**self).rows()

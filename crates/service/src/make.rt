@@ -16,7 +16,7 @@ use rows::refusal::RowRefusal;
 use rows::store::Store;
 
 fn make_row_call<S: Socket>(driver: &mut Driver<S>, call: RowCall) -> RowAnswer
-    ensures { RowDone (meaning driver.old.socket) (meaning driver.new.socket) call result driver.new.settling_reads }
+    ensures { RowDone (S.meaning driver.old.socket) (S.meaning driver.new.socket) call result driver.new.settling_reads }
 {
     match call {
         RowCall::CountRows => RowAnswer::Count(driver.rows()),
@@ -30,7 +30,7 @@ fn make_row_call<S: Socket>(driver: &mut Driver<S>, call: RowCall) -> RowAnswer
 }
 
 fn lock<S: Socket>(driver: &mut Driver<S>, block: BootBlock) -> Result<(), RowRefusal>
-    ensures { Checked (meaning driver.old.socket) (meaning driver.new.socket) driver.new.settling_reads result (part_check (meaning driver.old.socket)) 2 0 (after_lock block (meaning driver.old.socket).settled) }
+    ensures { Checked (S.meaning driver.old.socket) (S.meaning driver.new.socket) driver.new.settling_reads result (part_check (S.meaning driver.old.socket)) 2 0 (after_lock block (S.meaning driver.old.socket).settled) }
 {
     match block {
         BootBlock::Lower => driver.lock_low(),
@@ -57,7 +57,7 @@ fn read_answer(res: Result<u8, BusRefusal>) -> BusAnswer
 }
 
 fn pass_on<S: Socket>(driver: &mut Driver<S>, call: OthersCall) -> BusAnswer
-    ensures answered { Answered (bus_call call) result (meaning driver.old.socket) (meaning driver.new.socket) }
+    ensures answered { Answered (bus_call call) result (S.meaning driver.old.socket) (S.meaning driver.new.socket) }
     ensures told { driver.new.settling_reads ≡ 0 }
 {
     match call {
@@ -74,7 +74,7 @@ fn pass_on<S: Socket>(driver: &mut Driver<S>, call: OthersCall) -> BusAnswer
 
 // Makes one call.
 pub fn make_call<S: Socket>(driver: &mut Driver<S>, call: ServiceCall) -> Reply
-    ensures { Done (meaning driver.old.socket) (meaning driver.new.socket) call result.answer result.settling_reads }
+    ensures { Done (S.meaning driver.old.socket) (S.meaning driver.new.socket) call result.answer result.settling_reads }
 {
     let answer = match call {
         ServiceCall::Row(call) => ServiceAnswer::Row(make_row_call(driver, call)),

@@ -18,8 +18,8 @@ pub fn serve<S: Socket>(
     calls: Vec<ServiceCall>,
 ) -> Result<Vec<Reply>, AllocError>
     ensures every { IfOk result (λ replies. length replies.items ≡ length calls.items) }
-    ensures ran { IfOk result (λ replies. Run (history calls.items replies.items) (meaning driver.old.socket) (meaning driver.new.socket)) }
-    ensures law { IfOk result (λ replies. Law calls.items replies.items (meaning driver.old.socket) (meaning driver.new.socket)) }
+    ensures ran { IfOk result (λ replies. Run (history calls.items replies.items) (S.meaning driver.old.socket) (S.meaning driver.new.socket)) }
+    ensures law { IfOk result (λ replies. Law calls.items replies.items (S.meaning driver.old.socket) (S.meaning driver.new.socket)) }
     ensures refused { OnErr result (driver.new ≡ driver.old) }
 {
     let mut replies = Vec::with_capacity(heap, calls.len())?;

@@ -14,15 +14,15 @@ const POLL_GAP: u16 = 100;
 
 // Lets the open period close.
 fn close_period<S: Socket>(socket: &mut S)
-    ensures { Closed (meaning socket.old) (meaning socket.new) }
+    ensures { Closed (S.meaning socket.old) (S.meaning socket.new) }
 {
     socket.wait(CLOSING_WAIT);
 }
 
 // The toggle bit of a read of address 0.
 fn poll<S: Socket>(socket: &mut S) -> u8
-    requires { 0 < (meaning socket.old).sectors }
-    ensures { Polls (meaning socket.old) (meaning socket.new) result }
+    requires { 0 < (S.meaning socket.old).sectors }
+    ensures { Polls (S.meaning socket.old) (S.meaning socket.new) result }
 {
     match socket.read(0, POLL_GAP) {
         Ok(byte) => toggle_bit(byte),
@@ -32,9 +32,9 @@ fn poll<S: Socket>(socket: &mut S) -> u8
 
 // Polls until two reads in succession agree, and tells how many there were.
 fn poll_until_agreed<S: Socket>(socket: &mut S) -> u32
-    requires some { 0 < (meaning socket.old).sectors }
-    requires closed { Stage (meaning socket.old).phase 0 }
-    ensures { Agreement (meaning socket.old) (meaning socket.new) result }
+    requires some { 0 < (S.meaning socket.old).sectors }
+    requires closed { Stage (S.meaning socket.old).phase 0 }
+    ensures { Agreement (S.meaning socket.old) (S.meaning socket.new) result }
 {
     let mut before = Poll::first(poll(socket));
     loop {
@@ -48,7 +48,7 @@ fn poll_until_agreed<S: Socket>(socket: &mut S) -> u32
 
 // Waits until the part is at rest, and tells how many reads that took: none on a part without sectors.
 pub fn settle<S: Socket>(socket: &mut S) -> u32
-    ensures { Settles (meaning socket.old) (meaning socket.new) result }
+    ensures { Settles (S.meaning socket.old) (S.meaning socket.new) result }
 {
     close_period(socket);
     if (*socket).sectors() == 0 {

@@ -66,7 +66,7 @@ impl FlashArray<'_> {
     // Programs a page into its sector: the last load of each byte, or else what the behaviour makes of the byte there.
     fn program<B: Behaviour>(&mut self, sector: u32, page: &[Option<u8>; 128], behaviour: &B)
         requires { sector < count_of self.old }
-        ensures bytes { state_of self.new ≡ programmed_by B.Behaviour.style (state_of self.old) sector page.now }
+        ensures bytes { state_of self.new ≡ programmed_by B.style (state_of self.old) sector page.now }
         ensures kept { count_of self.new ≡ count_of self.old }
     {
         let base = 128 * sector as usize;
@@ -81,7 +81,7 @@ impl FlashArray<'_> {
 
     // The period closes: what it comes to takes effect.
     pub fn close<B: Behaviour>(&mut self, period: &OpenPeriod, behaviour: &B)
-        ensures state { state_of self.new ≡ settle_by B.Behaviour.style (count_of self.old) (state_of self.old) (period_of (count_of self.old) period.now) }
+        ensures state { state_of self.new ≡ settle_by B.style (count_of self.old) (state_of self.old) (period_of (count_of self.old) period.now) }
         ensures kept { count_of self.new ≡ count_of self.old }
     {
         let sectors = self.sectors();

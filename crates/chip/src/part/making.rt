@@ -13,7 +13,7 @@ use period::open::OpenPeriod;
 impl<'a, B: Behaviour + Drop> Part<'a, B> {
     // A part with this array and device code, at rest.
     pub fn new(array: FlashArray<'a>, device: u8, behaviour: B) -> Part<'a, B>
-        ensures chip { meant B.Behaviour.style result ≡ new_chip B.Behaviour.style (count_of array.entry) device (state_of array.entry) }
+        ensures chip { meant B.style result ≡ new_chip B.style (count_of array.entry) device (state_of array.entry) }
         ensures behaviour { result.behaviour ≡ behaviour }
     {
         let toggle = !behaviour.first_toggle();

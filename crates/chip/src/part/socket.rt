@@ -19,11 +19,11 @@ fn lock_byte(locked: bool) -> u8
 }
 
 impl<B: Behaviour + Drop> Socket for Part<'_, B> {
-    ghost meaning = { meant B.Behaviour.style };
+    ghost meaning = { meant B.style };
 
-    ghost lawful = { part_lawful B.Behaviour.style };
+    ghost lawful = { part_lawful B.style };
 
-    ghost promise = { Promised B.Behaviour.style B.Behaviour.times };
+    ghost promise = { Promised B.style B.times };
 
     fn sectors(&self) -> u32 {
         self.array.sectors()

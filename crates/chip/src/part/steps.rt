@@ -57,7 +57,7 @@ impl<B: Behaviour + Drop> Part<'_, B> {
 
     // The period that a gap would close now.
     pub fn due(&self, gap: u16) -> Option<Closed>
-        ensures { result ≡ due gap (meant B.Behaviour.style self.now) }
+        ensures { result ≡ due gap (meant B.style self.now) }
     {
         match self.phase {
             Phase::Open(age) if later(age, gap) > LOAD_WINDOW => Some(
@@ -70,7 +70,7 @@ impl<B: Behaviour + Drop> Part<'_, B> {
     // A cycle has run so far: it goes on, or the part is at rest.
     fn run(&mut self, time: u16, elapsed: u32)
         requires { (1 ≤ time) × (time ≤ 10000) }
-        ensures chip { meant B.Behaviour.style self.new ≡ chip_with (frame self.old) (stored self.old) (running time elapsed) }
+        ensures chip { meant B.style self.new ≡ chip_with (frame self.old) (stored self.old) (running time elapsed) }
         ensures behaviour { self.new.behaviour ≡ self.old.behaviour }
     {
         self.phase = if elapsed < u32::from(time) {
@@ -82,7 +82,7 @@ impl<B: Behaviour + Drop> Part<'_, B> {
 
     // A cycle goes on for a gap.
     fn run_on(&mut self, elapsed: u16, time: u16, gap: u16)
-        ensures chip { meant B.Behaviour.style self.new ≡ chip_with (frame self.old) (stored self.old) (running (nearest time) (min elapsed (nearest time - 1) + gap)) }
+        ensures chip { meant B.style self.new ≡ chip_with (frame self.old) (stored self.old) (running (nearest time) (min elapsed (nearest time - 1) + gap)) }
         ensures behaviour { self.new.behaviour ≡ self.old.behaviour }
     {
         let time = nearest_cycle_time(time);
@@ -92,8 +92,8 @@ impl<B: Behaviour + Drop> Part<'_, B> {
     // The open period has grown to this age, or has closed, and its cycle takes the next cycle time.
     fn grow(&mut self, age: u32)
         requires { age < 100000 }
-        ensures chip { meant B.Behaviour.style self.new ≡ grown B.Behaviour.style self.old (B.Behaviour.times self.old.behaviour 0) age }
-        ensures times { Onward (nat_lt 150 age) (B.Behaviour.times self.old.behaviour) (B.Behaviour.times self.new.behaviour) }
+        ensures chip { meant B.style self.new ≡ grown B.style self.old (B.times self.old.behaviour 0) age }
+        ensures times { Onward (nat_lt 150 age) (B.times self.old.behaviour) (B.times self.new.behaviour) }
     {
         if age > LOAD_WINDOW {
             self.array.close(&self.period, &self.behaviour);
@@ -106,8 +106,8 @@ impl<B: Behaviour + Drop> Part<'_, B> {
 
     // The period closes, and its cycle, which takes the next cycle time, ends.
     fn finish(&mut self)
-        ensures chip { meant B.Behaviour.style self.new ≡ chip_with (frame self.old) (settle_by B.Behaviour.style (count_of self.old) (stored self.old) (period_of (count_of self.old) self.old.period)) Meant.rest }
-        ensures times { (k : ℕ) → B.Behaviour.times self.new.behaviour k ≡ B.Behaviour.times self.old.behaviour (k + 1) }
+        ensures chip { meant B.style self.new ≡ chip_with (frame self.old) (settle_by B.style (count_of self.old) (stored self.old) (period_of (count_of self.old) self.old.period)) Meant.rest }
+        ensures times { (k : ℕ) → B.times self.new.behaviour k ≡ B.times self.old.behaviour (k + 1) }
     {
         self.array.close(&self.period, &self.behaviour);
         let _ = self.behaviour.next_time();
@@ -117,7 +117,7 @@ impl<B: Behaviour + Drop> Part<'_, B> {
     // The load joins the open period.
     fn join(&mut self, l: Load)
         requires { l.address < 128 * count_of self.old }
-        ensures chip { meant B.Behaviour.style self.new ≡ joined_to B.Behaviour.style self.old (period_of (count_of self.old) self.old.period) l }
+        ensures chip { meant B.style self.new ≡ joined_to B.style self.old (period_of (count_of self.old) self.old.period) l }
         ensures behaviour { self.new.behaviour ≡ self.old.behaviour }
     {
         let sectors = self.array.sectors();
@@ -129,7 +129,7 @@ impl<B: Behaviour + Drop> Part<'_, B> {
     // The load opens a period.
     fn begin(&mut self, l: Load)
         requires { l.address < 128 * count_of self.old }
-        ensures chip { meant B.Behaviour.style self.new ≡ joined_to B.Behaviour.style self.old fresh l }
+        ensures chip { meant B.style self.new ≡ joined_to B.style self.old fresh l }
         ensures behaviour { self.new.behaviour ≡ self.old.behaviour }
     {
         self.period = OpenPeriod::new();
@@ -139,7 +139,7 @@ impl<B: Behaviour + Drop> Part<'_, B> {
     // What an event does, by where the part stands. An address lies inside the part.
     pub(super) fn step(&mut self, event: Event) -> Reply
         requires { Within event (count_of self.old) }
-        ensures { Stepped B.Behaviour.style event (B.Behaviour.times self.old.behaviour) (B.Behaviour.times self.new.behaviour) (meant B.Behaviour.style self.old) (meant B.Behaviour.style self.new) result }
+        ensures { Stepped B.style event (B.times self.old.behaviour) (B.times self.new.behaviour) (meant B.style self.old) (meant B.style self.new) result }
     {
         match (self.phase, event) {
             (Phase::Rest, Event::Gap(_)) => Reply::Done,

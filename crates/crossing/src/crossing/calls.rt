@@ -24,22 +24,22 @@ fn laid(wiring: &Wiring, bytes: &[u8]) -> [u8; ROW_BYTES]
 // Beside what every store promises, each call tells what becomes of the store below: only an accepted write changes it,
 // and of it only the one row, which takes the bytes that show as those given.
 impl<S: Store> Store for Crossing<S> {
-    ghost meaning = { λ x. crossing x.wiring.lines (S.Store.meaning x.below) };
+    ghost meaning = { λ x. crossing x.wiring.lines (S.meaning x.below) };
 
-    ghost lawful = { λ x. crossing_lawful x.wiring.lines (S.Store.meaning x.below) x.wiring.once (S.Store.lawful x.below) };
+    ghost lawful = { λ x. crossing_lawful x.wiring.lines (S.meaning x.below) x.wiring.once (S.lawful x.below) };
 
     fn rows(&mut self) -> usize
-        ensures counts { result ≡ (S.Store.meaning self.old.below).count }
-        ensures kept { Kept (crossing self.old.wiring.lines (S.Store.meaning self.old.below)) (crossing self.new.wiring.lines (S.Store.meaning self.new.below)) }
-        ensures below { Kept (S.Store.meaning self.old.below) (S.Store.meaning self.new.below) }
+        ensures counts { result ≡ (S.meaning self.old.below).count }
+        ensures kept { Kept (crossing self.old.wiring.lines (S.meaning self.old.below)) (crossing self.new.wiring.lines (S.meaning self.new.below)) }
+        ensures below { Kept (S.meaning self.old.below) (S.meaning self.new.below) }
         ensures wired { self.new.wiring.lines ≡ self.old.wiring.lines }
     {
         self.below.rows()
     }
 
     fn read(&mut self, row: usize, place: &mut [u8]) -> Result<(), RowRefusal>
-        ensures reads { Reads (crossing self.old.wiring.lines (S.Store.meaning self.old.below)) (crossing self.new.wiring.lines (S.Store.meaning self.new.below)) row place.old place.new result }
-        ensures below { Kept (S.Store.meaning self.old.below) (S.Store.meaning self.new.below) }
+        ensures reads { Reads (crossing self.old.wiring.lines (S.meaning self.old.below)) (crossing self.new.wiring.lines (S.meaning self.new.below)) row place.old place.new result }
+        ensures below { Kept (S.meaning self.old.below) (S.meaning self.new.below) }
         ensures wired { self.new.wiring.lines ≡ self.old.wiring.lines }
     {
         self.below.read(row, place)?;
@@ -48,8 +48,8 @@ impl<S: Store> Store for Crossing<S> {
     }
 
     fn write(&mut self, row: usize, bytes: &[u8]) -> Result<(), RowRefusal>
-        ensures writes { Writes (crossing self.old.wiring.lines (S.Store.meaning self.old.below)) (crossing self.new.wiring.lines (S.Store.meaning self.new.below)) row bytes.now result }
-        ensures below { Wrote (S.Store.meaning self.old.below) (S.Store.meaning self.new.below) row (map (crossed (reversed self.old.wiring.lines)) bytes.now) result }
+        ensures writes { Writes (crossing self.old.wiring.lines (S.meaning self.old.below)) (crossing self.new.wiring.lines (S.meaning self.new.below)) row bytes.now result }
+        ensures below { Wrote (S.meaning self.old.below) (S.meaning self.new.below) row (map (crossed (reversed self.old.wiring.lines)) bytes.now) result }
         ensures wired { self.new.wiring.lines ≡ self.old.wiring.lines }
     {
         // A write of another length is the store's below to refuse: it knows whether the row exists.
@@ -61,8 +61,8 @@ impl<S: Store> Store for Crossing<S> {
     }
 
     fn is_locked(&mut self, row: usize) -> Result<bool, RowRefusal>
-        ensures asks { Asks (crossing self.old.wiring.lines (S.Store.meaning self.old.below)) (crossing self.new.wiring.lines (S.Store.meaning self.new.below)) row result }
-        ensures below { Kept (S.Store.meaning self.old.below) (S.Store.meaning self.new.below) }
+        ensures asks { Asks (crossing self.old.wiring.lines (S.meaning self.old.below)) (crossing self.new.wiring.lines (S.meaning self.new.below)) row result }
+        ensures below { Kept (S.meaning self.old.below) (S.meaning self.new.below) }
         ensures wired { self.new.wiring.lines ≡ self.old.wiring.lines }
     {
         self.below.is_locked(row)

@@ -1,8 +1,6 @@
 // A crossing made over a store, and the store given back.
 ghost use Rattle.std.specs.Prelude.{◌≡◌};
-ghost use mir.Syntax.{Dict};
 ghost use Rattle.crossing.specs.Crossings.{crossing};
-ghost use Rattle.crossing.specs.contracts.crossing.calls.CrossingStore.TheImpl.{ghosts};
 
 use crate::crossing::Crossing;
 use rows::store::Store;
@@ -12,7 +10,7 @@ impl<S: Store> Crossing<S> {
     // The store below, seen through the wiring.
     pub fn new(below: S, wiring: Wiring) -> Crossing<S>
         ensures holds { (result.below ≡ below) × (result.wiring ≡ wiring) }
-        ensures means { (d : Dict) → (ghosts S.row S.Store d).meaning result ≡ crossing wiring.lines (S.Store.meaning below) }
+        ensures means { ⟦<Crossing<S> as Store>⟧.meaning result ≡ crossing wiring.lines (S.meaning below) }
     {
         Crossing { below, wiring }
     }

@@ -7,9 +7,9 @@ use rows::refusal::RowRefusal;
 use rows::store::{ROW_BYTES, Store};
 
 impl<S: Store> Store for Lockout<S> {
-    ghost meaning = { λ x. locking x.locked (S.Store.meaning x.below) };
+    ghost meaning = { λ x. locking x.locked (S.meaning x.below) };
 
-    ghost lawful = { λ x. locking_lawful x.locked (S.Store.meaning x.below) (S.Store.lawful x.below) };
+    ghost lawful = { λ x. locking_lawful x.locked (S.meaning x.below) (S.lawful x.below) };
 
     fn rows(&mut self) -> usize {
         self.below.rows()

@@ -16,7 +16,7 @@ use settling::settle::settle;
 impl<S: Socket> Driver<S> {
     // Has the part do a command, if it has sectors.
     fn command(&mut self, command: Command) -> Result<(), RowRefusal>
-        ensures { Checked (S.Socket.meaning self.old.socket) (S.Socket.meaning self.new.socket) self.new.settling_reads result (part_check (S.Socket.meaning self.old.socket)) 2 0 (after_command command (S.Socket.meaning self.old.socket).settled) }
+        ensures { Checked (S.meaning self.old.socket) (S.meaning self.new.socket) self.new.settling_reads result (part_check (S.meaning self.old.socket)) 2 0 (after_command command (S.meaning self.old.socket).settled) }
     {
         self.settling_reads = settle(&mut self.socket);
         if self.socket.sectors() == 0 {
@@ -29,28 +29,28 @@ impl<S: Socket> Driver<S> {
 
     // Turns data protection on.
     pub fn protect(&mut self) -> Result<(), RowRefusal>
-        ensures { Checked (S.Socket.meaning self.old.socket) (S.Socket.meaning self.new.socket) self.new.settling_reads result (part_check (S.Socket.meaning self.old.socket)) 2 0 (after_protect (S.Socket.meaning self.old.socket).settled) }
+        ensures { Checked (S.meaning self.old.socket) (S.meaning self.new.socket) self.new.settling_reads result (part_check (S.meaning self.old.socket)) 2 0 (after_protect (S.meaning self.old.socket).settled) }
     {
         self.command(Command::Protect)
     }
 
     // Locks the lower boot block for good.
     pub fn lock_low(&mut self) -> Result<(), RowRefusal>
-        ensures { Checked (S.Socket.meaning self.old.socket) (S.Socket.meaning self.new.socket) self.new.settling_reads result (part_check (S.Socket.meaning self.old.socket)) 2 0 (after_lock_low (S.Socket.meaning self.old.socket).settled) }
+        ensures { Checked (S.meaning self.old.socket) (S.meaning self.new.socket) self.new.settling_reads result (part_check (S.meaning self.old.socket)) 2 0 (after_lock_low (S.meaning self.old.socket).settled) }
     {
         self.command(Command::LockLow)
     }
 
     // Locks the upper boot block for good.
     pub fn lock_high(&mut self) -> Result<(), RowRefusal>
-        ensures { Checked (S.Socket.meaning self.old.socket) (S.Socket.meaning self.new.socket) self.new.settling_reads result (part_check (S.Socket.meaning self.old.socket)) 2 0 (after_lock_high (S.Socket.meaning self.old.socket).settled) }
+        ensures { Checked (S.meaning self.old.socket) (S.meaning self.new.socket) self.new.settling_reads result (part_check (S.meaning self.old.socket)) 2 0 (after_lock_high (S.meaning self.old.socket).settled) }
     {
         self.command(Command::LockHigh)
     }
 
     // Turns data protection off, by a row that is read and loaded back.
     pub fn lift(&mut self, row: usize) -> Result<(), RowRefusal>
-        ensures { Checked (S.Socket.meaning self.old.socket) (S.Socket.meaning self.new.socket) self.new.settling_reads result (write_check (driver_rows (S.Socket.meaning self.old.socket)) row 128) 2 128 (after_lift (S.Socket.meaning self.old.socket).settled) }
+        ensures { Checked (S.meaning self.old.socket) (S.meaning self.new.socket) self.new.settling_reads result (write_check (driver_rows (S.meaning self.old.socket)) row 128) 2 128 (after_lift (S.meaning self.old.socket).settled) }
     {
         self.settling_reads = settle(&mut self.socket);
         if row >= self.socket.sectors() as usize {

@@ -1,18 +1,17 @@
 // A driver made over a socket, and the socket back again.
 ghost use Rattle.std.specs.Prelude.{◌≡◌};
-ghost use mir.Syntax.{Dict};
 ghost use Rattle.driver.specs.DriverRows.{driver_rows};
-ghost use Rattle.driver.specs.contracts.driver.row_calls.DriverStore.TheImpl.{ghosts};
 
 use crate::driver::Driver;
 use bus::socket::Socket;
+use rows::store::Store;
 
 impl<S: Socket> Driver<S> {
     // The driver whose rows are the sectors of the part in the socket.
     pub fn new(socket: S) -> Driver<S>
         ensures holds { result.socket ≡ socket }
         ensures told { result.settling_reads ≡ 0 }
-        ensures means { (x : Dict) → (ghosts S.row S.Socket x).meaning result ≡ driver_rows (S.Socket.meaning socket) }
+        ensures means { ⟦<Driver<S> as Store>⟧.meaning result ≡ driver_rows (S.meaning socket) }
     {
         Driver {
             socket,

@@ -13,8 +13,8 @@ use bus::socket::Socket;
 
 impl<S: Socket> Driver<S> {
     pub fn pass_load(&mut self, address: u32, byte: u8, gap: u16) -> Result<(), BusRefusal>
-        ensures moves { Loads (at address byte) gap (S.Socket.meaning self.old.socket) (S.Socket.meaning self.new.socket) (result_err result) }
-        ensures own { S.Socket.promise self.old.socket (Calls.Load (at address byte) gap) (load_answer (result_err result)) self.new.socket }
+        ensures moves { Loads (at address byte) gap (S.meaning self.old.socket) (S.meaning self.new.socket) (result_err result) }
+        ensures own { S.promise self.old.socket (Calls.Load (at address byte) gap) (load_answer (result_err result)) self.new.socket }
         ensures told { self.new.settling_reads ≡ 0 }
     {
         self.settling_reads = 0;
@@ -22,8 +22,8 @@ impl<S: Socket> Driver<S> {
     }
 
     pub fn pass_read(&mut self, address: u32, gap: u16) -> Result<u8, BusRefusal>
-        ensures moves { Reads address gap (S.Socket.meaning self.old.socket) (S.Socket.meaning self.new.socket) result }
-        ensures own { S.Socket.promise self.old.socket (Calls.Read address gap) (read_answer result) self.new.socket }
+        ensures moves { Reads address gap (S.meaning self.old.socket) (S.meaning self.new.socket) result }
+        ensures own { S.promise self.old.socket (Calls.Read address gap) (read_answer result) self.new.socket }
         ensures told { self.new.settling_reads ≡ 0 }
     {
         self.settling_reads = 0;
@@ -31,8 +31,8 @@ impl<S: Socket> Driver<S> {
     }
 
     pub fn pass_wait(&mut self, gap: u16)
-        ensures moves { Waits gap (S.Socket.meaning self.old.socket) (S.Socket.meaning self.new.socket) }
-        ensures own { S.Socket.promise self.old.socket (Calls.Wait gap) Answers.Waited self.new.socket }
+        ensures moves { Waits gap (S.meaning self.old.socket) (S.meaning self.new.socket) }
+        ensures own { S.promise self.old.socket (Calls.Wait gap) Answers.Waited self.new.socket }
         ensures told { self.new.settling_reads ≡ 0 }
     {
         self.settling_reads = 0;

@@ -16,13 +16,13 @@ use settling::settle::settle;
 
 // Beside what every store promises, each call tells how many reads it made to settle and what it leaves in the part.
 impl<S: Socket> Store for Driver<S> {
-    ghost meaning = { λ d. driver_rows (S.Socket.meaning d.socket) };
+    ghost meaning = { λ d. driver_rows (S.meaning d.socket) };
 
-    ghost lawful = { λ d. driver_lawful (S.Socket.meaning d.socket) (S.Socket.lawful d.socket) };
+    ghost lawful = { λ d. driver_lawful (S.meaning d.socket) (S.lawful d.socket) };
 
     fn rows(&mut self) -> usize
-        ensures counts { result ≡ (S.Socket.meaning self.old.socket).sectors }
-        ensures kept { Kept (driver_rows (S.Socket.meaning self.old.socket)) (driver_rows (S.Socket.meaning self.new.socket)) }
+        ensures counts { result ≡ (S.meaning self.old.socket).sectors }
+        ensures kept { Kept (driver_rows (S.meaning self.old.socket)) (driver_rows (S.meaning self.new.socket)) }
         ensures same { self.new.socket ≡ self.old.socket }
         ensures told { self.new.settling_reads ≡ 0 }
     {
@@ -31,8 +31,8 @@ impl<S: Socket> Store for Driver<S> {
     }
 
     fn read(&mut self, row: usize, place: &mut [u8]) -> Result<(), RowRefusal>
-        ensures reads { Reads (driver_rows (S.Socket.meaning self.old.socket)) (driver_rows (S.Socket.meaning self.new.socket)) row place.old place.new result }
-        ensures driven { Driven (S.Socket.meaning self.old.socket) (S.Socket.meaning self.new.socket) self.new.settling_reads result 1 128 (S.Socket.meaning self.old.socket).settled }
+        ensures reads { Reads (driver_rows (S.meaning self.old.socket)) (driver_rows (S.meaning self.new.socket)) row place.old place.new result }
+        ensures driven { Driven (S.meaning self.old.socket) (S.meaning self.new.socket) self.new.settling_reads result 1 128 (S.meaning self.old.socket).settled }
     {
         self.settling_reads = settle(&mut self.socket);
         if row >= self.socket.sectors() as usize {
@@ -46,8 +46,8 @@ impl<S: Socket> Store for Driver<S> {
     }
 
     fn write(&mut self, row: usize, bytes: &[u8]) -> Result<(), RowRefusal>
-        ensures writes { Writes (driver_rows (S.Socket.meaning self.old.socket)) (driver_rows (S.Socket.meaning self.new.socket)) row bytes.now result }
-        ensures driven { Driven (S.Socket.meaning self.old.socket) (S.Socket.meaning self.new.socket) self.new.settling_reads result 2 0 (after_write (S.Socket.meaning self.old.socket).settled row bytes.now) }
+        ensures writes { Writes (driver_rows (S.meaning self.old.socket)) (driver_rows (S.meaning self.new.socket)) row bytes.now result }
+        ensures driven { Driven (S.meaning self.old.socket) (S.meaning self.new.socket) self.new.settling_reads result 2 0 (after_write (S.meaning self.old.socket).settled row bytes.now) }
     {
         self.settling_reads = settle(&mut self.socket);
         if row >= self.socket.sectors() as usize {
@@ -65,8 +65,8 @@ impl<S: Socket> Store for Driver<S> {
     }
 
     fn is_locked(&mut self, row: usize) -> Result<bool, RowRefusal>
-        ensures asks { Asks (driver_rows (S.Socket.meaning self.old.socket)) (driver_rows (S.Socket.meaning self.new.socket)) row result }
-        ensures driven { Driven (S.Socket.meaning self.old.socket) (S.Socket.meaning self.new.socket) self.new.settling_reads result 1 0 (S.Socket.meaning self.old.socket).settled }
+        ensures asks { Asks (driver_rows (S.meaning self.old.socket)) (driver_rows (S.meaning self.new.socket)) row result }
+        ensures driven { Driven (S.meaning self.old.socket) (S.meaning self.new.socket) self.new.settling_reads result 1 0 (S.meaning self.old.socket).settled }
     {
         self.settling_reads = settle(&mut self.socket);
         if row >= self.socket.sectors() as usize {

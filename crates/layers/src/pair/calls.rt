@@ -18,15 +18,15 @@ fn total(front: usize, back: usize) -> usize
 // Beside what every store promises, each call tells what becomes of the stores below: only an accepted write changes
 // one of them, and of it only the one row.
 impl<F: Store, B: Store> Store for Pair<F, B> {
-    ghost meaning = { λ p. paired (F.Store.meaning p.front) (B.Store.meaning p.back) };
+    ghost meaning = { λ p. paired (F.meaning p.front) (B.meaning p.back) };
 
-    ghost lawful = { λ p. paired_lawful (F.Store.meaning p.front) (B.Store.meaning p.back) (F.Store.lawful p.front) (B.Store.lawful p.back) };
+    ghost lawful = { λ p. paired_lawful (F.meaning p.front) (B.meaning p.back) (F.lawful p.front) (B.lawful p.back) };
 
     fn rows(&mut self) -> usize
-        ensures counts { result ≡ min 1048576 ((F.Store.meaning self.old.front).count + (B.Store.meaning self.old.back).count) }
-        ensures kept { Kept (paired (F.Store.meaning self.old.front) (B.Store.meaning self.old.back)) (paired (F.Store.meaning self.new.front) (B.Store.meaning self.new.back)) }
-        ensures front { Kept (F.Store.meaning self.old.front) (F.Store.meaning self.new.front) }
-        ensures back { Kept (B.Store.meaning self.old.back) (B.Store.meaning self.new.back) }
+        ensures counts { result ≡ min 1048576 ((F.meaning self.old.front).count + (B.meaning self.old.back).count) }
+        ensures kept { Kept (paired (F.meaning self.old.front) (B.meaning self.old.back)) (paired (F.meaning self.new.front) (B.meaning self.new.back)) }
+        ensures front { Kept (F.meaning self.old.front) (F.meaning self.new.front) }
+        ensures back { Kept (B.meaning self.old.back) (B.meaning self.new.back) }
     {
         let front = self.front.rows();
         let back = self.back.rows();
@@ -34,9 +34,9 @@ impl<F: Store, B: Store> Store for Pair<F, B> {
     }
 
     fn read(&mut self, row: usize, place: &mut [u8]) -> Result<(), RowRefusal>
-        ensures reads { Reads (paired (F.Store.meaning self.old.front) (B.Store.meaning self.old.back)) (paired (F.Store.meaning self.new.front) (B.Store.meaning self.new.back)) row place.old place.new result }
-        ensures front { Kept (F.Store.meaning self.old.front) (F.Store.meaning self.new.front) }
-        ensures back { Kept (B.Store.meaning self.old.back) (B.Store.meaning self.new.back) }
+        ensures reads { Reads (paired (F.meaning self.old.front) (B.meaning self.old.back)) (paired (F.meaning self.new.front) (B.meaning self.new.back)) row place.old place.new result }
+        ensures front { Kept (F.meaning self.old.front) (F.meaning self.new.front) }
+        ensures back { Kept (B.meaning self.old.back) (B.meaning self.new.back) }
     {
         let front = self.front.rows();
         let back = self.back.rows();
@@ -50,8 +50,8 @@ impl<F: Store, B: Store> Store for Pair<F, B> {
     }
 
     fn write(&mut self, row: usize, bytes: &[u8]) -> Result<(), RowRefusal>
-        ensures writes { Writes (paired (F.Store.meaning self.old.front) (B.Store.meaning self.old.back)) (paired (F.Store.meaning self.new.front) (B.Store.meaning self.new.back)) row bytes.now result }
-        ensures below { WroteOne (F.Store.meaning self.old.front) (F.Store.meaning self.new.front) (B.Store.meaning self.old.back) (B.Store.meaning self.new.back) row bytes.now result }
+        ensures writes { Writes (paired (F.meaning self.old.front) (B.meaning self.old.back)) (paired (F.meaning self.new.front) (B.meaning self.new.back)) row bytes.now result }
+        ensures below { WroteOne (F.meaning self.old.front) (F.meaning self.new.front) (B.meaning self.old.back) (B.meaning self.new.back) row bytes.now result }
     {
         let front = self.front.rows();
         let back = self.back.rows();
@@ -65,9 +65,9 @@ impl<F: Store, B: Store> Store for Pair<F, B> {
     }
 
     fn is_locked(&mut self, row: usize) -> Result<bool, RowRefusal>
-        ensures asks { Asks (paired (F.Store.meaning self.old.front) (B.Store.meaning self.old.back)) (paired (F.Store.meaning self.new.front) (B.Store.meaning self.new.back)) row result }
-        ensures front { Kept (F.Store.meaning self.old.front) (F.Store.meaning self.new.front) }
-        ensures back { Kept (B.Store.meaning self.old.back) (B.Store.meaning self.new.back) }
+        ensures asks { Asks (paired (F.meaning self.old.front) (B.meaning self.old.back)) (paired (F.meaning self.new.front) (B.meaning self.new.back)) row result }
+        ensures front { Kept (F.meaning self.old.front) (F.meaning self.new.front) }
+        ensures back { Kept (B.meaning self.old.back) (B.meaning self.new.back) }
     {
         let front = self.front.rows();
         let back = self.back.rows();

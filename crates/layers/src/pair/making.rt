@@ -1,8 +1,6 @@
 // A pair made of two stores, and the stores given back.
 ghost use Rattle.std.specs.Prelude.{◌≡◌};
-ghost use mir.Syntax.{Dict};
 ghost use Rattle.layers.specs.Pairs.{paired};
-ghost use Rattle.layers.specs.contracts.pair.calls.PairStore.TheImpl.{ghosts};
 
 use crate::pair::Pair;
 use rows::store::Store;
@@ -11,7 +9,7 @@ impl<F: Store, B: Store> Pair<F, B> {
     // The rows of the front, and then those of the back.
     pub fn new(front: F, back: B) -> Pair<F, B>
         ensures holds { (result.front ≡ front) × (result.back ≡ back) }
-        ensures means { (d e : Dict) → (ghosts F.row B.row F.Store d B.Store e).meaning result ≡ paired (F.Store.meaning front) (B.Store.meaning back) }
+        ensures means { ⟦<Pair<F, B> as Store>⟧.meaning result ≡ paired (F.meaning front) (B.meaning back) }
     {
         Pair { front, back }
     }

@@ -18,22 +18,22 @@ fn span(rows: usize, first: usize, most: usize) -> usize
 // Beside what every store promises, each call tells what becomes of the store below: only an accepted write changes it,
 // and of it only the one row.
 impl<S: Store> Store for Window<S> {
-    ghost meaning = { λ w. windowed w.first w.most (S.Store.meaning w.below) };
+    ghost meaning = { λ w. windowed w.first w.most (S.meaning w.below) };
 
-    ghost lawful = { λ w. windowed_lawful w.first w.most (S.Store.meaning w.below) (S.Store.lawful w.below) };
+    ghost lawful = { λ w. windowed_lawful w.first w.most (S.meaning w.below) (S.lawful w.below) };
 
     fn rows(&mut self) -> usize
-        ensures counts { result ≡ min self.old.most ((S.Store.meaning self.old.below).count - self.old.first) }
-        ensures kept { Kept (windowed self.old.first self.old.most (S.Store.meaning self.old.below)) (windowed self.new.first self.new.most (S.Store.meaning self.new.below)) }
-        ensures below { Kept (S.Store.meaning self.old.below) (S.Store.meaning self.new.below) }
+        ensures counts { result ≡ min self.old.most ((S.meaning self.old.below).count - self.old.first) }
+        ensures kept { Kept (windowed self.old.first self.old.most (S.meaning self.old.below)) (windowed self.new.first self.new.most (S.meaning self.new.below)) }
+        ensures below { Kept (S.meaning self.old.below) (S.meaning self.new.below) }
         ensures placed { Placed self.old self.new }
     {
         span(self.below.rows(), self.first, self.most)
     }
 
     fn read(&mut self, row: usize, place: &mut [u8]) -> Result<(), RowRefusal>
-        ensures reads { Reads (windowed self.old.first self.old.most (S.Store.meaning self.old.below)) (windowed self.new.first self.new.most (S.Store.meaning self.new.below)) row place.old place.new result }
-        ensures below { Kept (S.Store.meaning self.old.below) (S.Store.meaning self.new.below) }
+        ensures reads { Reads (windowed self.old.first self.old.most (S.meaning self.old.below)) (windowed self.new.first self.new.most (S.meaning self.new.below)) row place.old place.new result }
+        ensures below { Kept (S.meaning self.old.below) (S.meaning self.new.below) }
         ensures placed { Placed self.old self.new }
     {
         let rows = self.below.rows();
@@ -44,8 +44,8 @@ impl<S: Store> Store for Window<S> {
     }
 
     fn write(&mut self, row: usize, bytes: &[u8]) -> Result<(), RowRefusal>
-        ensures writes { Writes (windowed self.old.first self.old.most (S.Store.meaning self.old.below)) (windowed self.new.first self.new.most (S.Store.meaning self.new.below)) row bytes.now result }
-        ensures below { Wrote (S.Store.meaning self.old.below) (S.Store.meaning self.new.below) (self.old.first + row) bytes.now result }
+        ensures writes { Writes (windowed self.old.first self.old.most (S.meaning self.old.below)) (windowed self.new.first self.new.most (S.meaning self.new.below)) row bytes.now result }
+        ensures below { Wrote (S.meaning self.old.below) (S.meaning self.new.below) (self.old.first + row) bytes.now result }
         ensures placed { Placed self.old self.new }
     {
         let rows = self.below.rows();
@@ -56,8 +56,8 @@ impl<S: Store> Store for Window<S> {
     }
 
     fn is_locked(&mut self, row: usize) -> Result<bool, RowRefusal>
-        ensures asks { Asks (windowed self.old.first self.old.most (S.Store.meaning self.old.below)) (windowed self.new.first self.new.most (S.Store.meaning self.new.below)) row result }
-        ensures below { Kept (S.Store.meaning self.old.below) (S.Store.meaning self.new.below) }
+        ensures asks { Asks (windowed self.old.first self.old.most (S.meaning self.old.below)) (windowed self.new.first self.new.most (S.meaning self.new.below)) row result }
+        ensures below { Kept (S.meaning self.old.below) (S.meaning self.new.below) }
         ensures placed { Placed self.old self.new }
     {
         let rows = self.below.rows();

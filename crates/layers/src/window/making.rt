@@ -1,8 +1,6 @@
 // A window made over a store, and the store given back.
 ghost use Rattle.std.specs.Prelude.{◌≡◌};
-ghost use mir.Syntax.{Dict};
 ghost use Rattle.layers.specs.Windows.{windowed};
-ghost use Rattle.layers.specs.contracts.window.calls.WindowStore.TheImpl.{ghosts};
 
 use crate::window::Window;
 use rows::store::Store;
@@ -11,7 +9,7 @@ impl<S: Store> Window<S> {
     // At most so many rows of the store below, from a first row on.
     pub fn new(below: S, first: usize, most: usize) -> Window<S>
         ensures holds { (result.below ≡ below) × (result.first ≡ first) × (result.most ≡ most) }
-        ensures means { (d : Dict) → (ghosts S.row S.Store d).meaning result ≡ windowed first most (S.Store.meaning below) }
+        ensures means { ⟦<Window<S> as Store>⟧.meaning result ≡ windowed first most (S.meaning below) }
     {
         Window { below, first, most }
     }

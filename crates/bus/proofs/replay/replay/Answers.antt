@@ -7,7 +7,7 @@ use Rattle.bus.proofs.replay.replay.Goals as goal
 
 pub loop-call-init : goal.loop-call-init
 loop-call-init g c =
-    let made = c.in-ok-answers.ensures in
+    let made = c.in_ok-answers.ensures in
     (omega arith, made.len, made.capacity, refl, refl)
 
 pub loop-call-preserved : goal.loop-call-preserved
@@ -18,12 +18,12 @@ loop-call-preserved g c =
     let os = vec_items c.loop-call.answers in
     let more = c.loop-call-test.true in
     let same : length os ≡ i = sym c.loop-call.answers.ok.0 ∙ c.loop-call.invariant.1 in
-    let items = c.push-reserved.ensures.items in (
+    let items = c.push_reserved.ensures.items in (
       omega arith,
       omega arith,
       omega arith,
-      run_more xs os _ i _ _ more same items _ (m c.loop-call.socket) _ c.loop-call.invariant.3 c.make-call.ensures.answered,
-      kept_more xs os _ i _ _ more same items g.S.Socket.promise _ c.loop-call.socket _ c.loop-call.invariant.4 c.make-call.ensures.own_val,
+      run_more xs os _ i _ _ more same items _ (m c.loop-call.socket) _ c.loop-call.invariant.3 c.make_call.ensures.answered,
+      kept_more xs os _ i _ _ more same items g.S.Socket.promise _ c.loop-call.socket _ c.loop-call.invariant.4 c.make_call.ensures.own_val,
     )
 
 pub returns : goal.returns

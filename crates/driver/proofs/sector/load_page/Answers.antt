@@ -11,7 +11,7 @@ returns g c =
     record {
       programs = λ z o f n h. record {
         sent = wrote coded z d r bytes c.requires.whole f (c.load-bytes.ensures coded z o);
-        stored = stored z.sectors z.settled r bytes n c.requires.whole h (λ i. (c.type-inv.bytes i).fits);
+        stored = stored z.sectors z.settled r bytes n c.requires.whole h (λ i. (c.type_inv.bytes i).fits);
       };
       lifts = λ z o f e. lifted z d r bytes (wrote lift z d r bytes c.requires.whole f (c.load-bytes.ensures lift z o)) e;
     }

@@ -12,6 +12,6 @@ returns g c =
     let size = (g.S.Socket.lawful c.args.socket.now).sized in
     record {
       quiet = c.copy-sector.ensures.quiet;
-      shows = fills ∙ sym (as_bytes_front (row_of bytes c.args.sector) rest (λ i. rw fills at (c.type-inv.place i).fits));
+      shows = fills ∙ sym (as_bytes_front (row_of bytes c.args.sector) rest (λ i. rw fills at (c.type_inv.place i).fits));
       back = back bytes c.copy-sector.new.place rest c.args.sector (omega (arith, c.requires.within)) fills;
     }

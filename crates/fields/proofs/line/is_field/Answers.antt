@@ -6,8 +6,8 @@ use Rattle.fields.proofs.line.is_field.Goals.{then-len-eq0-via-then-len-eq0, the
 
 pub returns-then-len-eq0 : goal.returns-then-len-eq0
 returns-then-len-eq0 c = record {
-  one = not_one c.args.bytes.now c.field-len-len.result
+  one = not_one c.args.bytes.now c.field_len-len.result
       (elim c.then-len-eq0.branch [ then-len-eq0-via-then-len-eq0 w ↦ inl w.if-len-eq0.true | then-len-eq0-via-else-len-eq0+then-len-bytes w ↦ inr w.if-len-bytes.true ])
-      c.field-len-len.ensures.cut;
+      c.field_len-len.ensures.cut;
   whole = λ e. absurd (false≢true e);
 }

@@ -14,7 +14,7 @@ no_more done (x ∷ rest) all e f = absurd (omega arith)
 
 pub loop-call-init : goal.loop-call-init
 loop-call-init g c =
-    let made = c.in-ok-answers.ensures in
+    let made = c.in_ok-answers.ensures in
     let all = ap length c.into-iter-call-iterator.ensures.into-iter-gives.0 in
     let many = c.args.calls.ok.0 in
     (tt, tt, refl, omega arith, rw made.items (performed_none (g.S.Store.meaning c.args.store.now)))

@@ -9,14 +9,14 @@ loop-call-preserved c =
     let xs = c.args.calls.now in
     let i = c.loop-call.call-index in
     c.loop-call.invariant ∙ harmless_more xs i c.call-item.result c.loop-call-test.true c.call-item.is
-    ∙ ap (λ (b : Bool). b && all_harmless (drop (i + 1) xs)) (sym c.if-not-is-harmless.ensures)
+    ∙ ap (λ (b : Bool). b && all_harmless (drop (i + 1) xs)) (sym c.if-not-is_harmless.ensures)
 
-pub returns-then-not-is-harmless : goal.returns-then-not-is-harmless
-returns-then-not-is-harmless c =
+pub returns-then-not-is_harmless : goal.returns-then-not-is_harmless
+returns-then-not-is_harmless c =
     let xs = c.args.calls.now in
     let i = c.loop-call.call-index in
     sym (c.loop-call.invariant ∙ harmless_more xs i c.call-item.result c.loop-call-test.true c.call-item.is
-    ∙ ap (λ (b : Bool). b && all_harmless (drop (i + 1) xs)) (sym c.if-not-is-harmless.ensures))
+    ∙ ap (λ (b : Bool). b && all_harmless (drop (i + 1) xs)) (sym c.if-not-is_harmless.ensures))
 
 pub returns : goal.returns
 returns c = sym (c.loop-call.invariant ∙ ap all_harmless (drop_all c.loop-call.call-index c.args.calls.now c.loop-call-test.false))

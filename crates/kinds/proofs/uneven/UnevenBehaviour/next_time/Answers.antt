@@ -6,6 +6,6 @@ pub returns : goal.returns
 returns c =
     let s = c.args.self.now in
     record {
-      value = c.nearest-cycle-time.ensures ∙ turn_now s.times.now s.next (omega arith);
+      value = c.nearest_cycle_time.ensures ∙ turn_now s.times.now s.next (omega arith);
       onward = turn_next s.times.now s.next;
     }

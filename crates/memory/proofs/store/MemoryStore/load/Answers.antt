@@ -8,6 +8,6 @@ returns c =
     let row = row_of c.args.self.now.memory.now c.args.row in
     let copies = c.load-row.ensures in
     record {
-      reads = copies ∙ sym (as_bytes_front row (drop 128 c.args.place.now) (λ i. rw copies at (c.type-inv.place i).fits));
+      reads = copies ∙ sym (as_bytes_front row (drop 128 c.args.place.now) (λ i. rw copies at (c.type_inv.place i).fits));
       copies = copies;
     }

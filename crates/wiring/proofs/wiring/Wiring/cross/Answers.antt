@@ -7,14 +7,14 @@ use Rattle.wiring.proofs.wiring.Wiring.cross.Goals as goal
 pub loop-i-init : goal.loop-i-init
 loop-i-init c = sym (ap (λ xs. crossed xs c.args.b) (drop_all 8 c.args.self.now.lines (omega arith)))
 
-pub overflow-mul-out : goal.overflow-mul-out
-overflow-mul-out c =
+pub overflow_mul-out : goal.overflow_mul-out
+overflow_mul-out c =
     let l = crossed_drop_lt c.args.self.now.lines c.args.b c.loop-i.i (omega arith) (omega arith) in
     let e : c.loop-i.out ≡ crossed (drop c.loop-i.i c.args.self.now.lines) c.args.b = c.loop-i.invariant in
     omega arith
 
-pub overflow-add-out : goal.overflow-add-out
-overflow-add-out c =
+pub overflow_add-out : goal.overflow_add-out
+overflow_add-out c =
     let l = crossed_drop_lt c.args.self.now.lines c.args.b c.loop-i.i (omega arith) (omega arith) in
     let e : c.loop-i.out ≡ crossed (drop c.loop-i.i c.args.self.now.lines) c.args.b = c.loop-i.invariant in
     omega arith
@@ -29,5 +29,5 @@ loop-i-preserved c =
     let more' = rw at at more in
     omega arith
 
-pub overflow-shr-out : goal.overflow-shr-out
-overflow-shr-out c = line_lt c.args.self.now.lines (c.loop-i.i - 1) c.args.self.now.once (omega arith)
+pub overflow_shr-out : goal.overflow_shr-out
+overflow_shr-out c = line_lt c.args.self.now.lines (c.loop-i.i - 1) c.args.self.now.once (omega arith)

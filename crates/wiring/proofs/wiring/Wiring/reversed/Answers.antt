@@ -3,11 +3,11 @@ use Rattle.wiring.specs.Lines.{EachOnce, crossed, reversed}
 use Rattle.wiring.proofs.LineLaws.{back_all, position_fits, reversed_once, map_back}
 use Rattle.wiring.proofs.wiring.Wiring.reversed.Goals as goal
 
-pub overflow-cast-lines : goal.overflow-cast-lines
-overflow-cast-lines c = let l = position_fits c.args.self.now.lines c.loop-j.j c.args.self.now.once (omega arith) in omega arith
+pub overflow_cast-lines : goal.overflow_cast-lines
+overflow_cast-lines c = let l = position_fits c.args.self.now.lines c.loop-j.j c.args.self.now.once (omega arith) in omega arith
 
-pub invariant-of-result : goal.invariant-of-result
-invariant-of-result c =
+pub invariant_of-result : goal.invariant_of-result
+invariant_of-result c =
     let w = c.args.self.now in
     let all = back_all w.lines c.loop-j.lines c.loop-j.invariant.0 (λ k h. c.loop-j.invariant.1 k (omega arith)) in
     (subst EachOnce (sym all) (reversed_once w.lines w.once), tt)

@@ -9,5 +9,5 @@ pub returns : goal.returns
 returns c = record {
   text = search rules;
   start = omega (arith, c.put-decimal.ensures.start, length-decimal-le 5 c.from.result (omega arith) (omega arith) (omega arith));
-  top = omega (arith, c.gap.ensures, c.gap.type-inv);
+  top = omega (arith, c.gap.ensures, c.gap.type_inv);
 }

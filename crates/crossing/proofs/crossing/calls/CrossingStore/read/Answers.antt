@@ -5,7 +5,7 @@ use Rattle.crossing.proofs.crossing.calls.CrossingStore.read.Goals as goal
 pub returns : goal.returns
 returns g c =
     let x = c.args.self.now in
-    let u = c.in-ok-read.ensures in
+    let u = c.in_ok-read.ensures in
     record {
       reads = crossing_reads x.wiring.lines _ _ c.args.row _ _ _ (g.S.Store.lawful x.below) u c.show.ensures.crosses;
       below = u.kept;
