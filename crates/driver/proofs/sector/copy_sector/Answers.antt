@@ -8,8 +8,8 @@ use Rattle.driver.proofs.sector.copy_sector.Goals as goal
 pub loop-i-init : goal.loop-i-init
 loop-i-init g c = (quiet_none (g.S.Socket.meaning c.args.socket.now) c.requires.rests (g.S.Socket.lawful c.args.socket.now).counts, refl)
 
-pub byte-at-requires : goal.byte-at-requires
-byte-at-requires g c = record { rests = c.loop-i.invariant.0.rests; within = let s = c.loop-i.invariant.0.same.sectors in omega arith }
+pub byte_at-requires : goal.byte_at-requires
+byte_at-requires g c = record { rests = c.loop-i.invariant.0.rests; within = let s = c.loop-i.invariant.0.same.sectors in omega arith }
 
 pub loop-i-preserved : goal.loop-i-preserved
 loop-i-preserved g c =
@@ -17,9 +17,9 @@ loop-i-preserved g c =
     let z = m c.args.socket.now in
     let a = 128 * c.args.sector + c.loop-i.i in
     let n = (g.S.Socket.lawful c.args.socket.now).sized in
-    let v = c.byte-at.ensures.byte ∙ ap (λ (s : State). get_or s.bytes a 0) c.loop-i.invariant.0.same.settled in (
-      quiet_more z (m c.loop-i.socket) (m c.byte-at.new.socket) c.loop-i.i 1 c.loop-i.invariant.0 c.byte-at.ensures.quiet,
-      place_more z.settled.bytes c.args.place.now c.loop-i.place c.args.sector c.loop-i.i c.byte-at.result c.loop-i.invariant.1 (omega arith) (omega arith) v,
+    let v = c.byte_at.ensures.byte ∙ ap (λ (s : State). get_or s.bytes a 0) c.loop-i.invariant.0.same.settled in (
+      quiet_more z (m c.loop-i.socket) (m c.byte_at.new.socket) c.loop-i.i 1 c.loop-i.invariant.0 c.byte_at.ensures.quiet,
+      place_more z.settled.bytes c.args.place.now c.loop-i.place c.args.sector c.loop-i.i c.byte_at.result c.loop-i.invariant.1 (omega arith) (omega arith) v,
     )
 
 pub returns : goal.returns

@@ -4,8 +4,8 @@ use Rattle.fields.proofs.numerals.number.Goals as goal
 
 pub returns-in_err-value : goal.returns-in_err-value
 returns-in_err-value c = record {
-  value = c.from-residual.ensures ∙ sym (c.loop-byte.invariant.0 ∙ no_digit c.args.base c.loop-byte.n c.args.text.now c.loop-byte.byte-index c.loop-byte-test.true c.in_err-value.ensures);
-  bound = rw c.from-residual.ensures tt;
+  value = c.from_residual.ensures ∙ sym (c.loop-byte.invariant.0 ∙ no_digit c.args.base c.loop-byte.n c.args.text.now c.loop-byte.byte-index c.loop-byte-test.true c.in_err-value.ensures);
+  bound = rw c.from_residual.ensures tt;
 }
 
 pub overflow_mul-n : goal.overflow_mul-n

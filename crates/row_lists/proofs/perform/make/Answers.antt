@@ -10,4 +10,4 @@ returns-in-Read g c =
     let after = c.read-result.new.place in
     let back = with_items_is c.in-Read.place after (omega arith) in
     let right = read_right _ _ c.in-Read.row _ after c.read-result.result c.read-result.ensures in
-    rw c.in-Read.is (record { right = ap (read (answered c.read-result.result)) back ∙ (rw c.deref-mut.ensures.value at right); moved = c.read-result.ensures.kept })
+    rw c.in-Read.is (record { right = ap (read (answered c.read-result.result)) back ∙ (rw c.deref_mut.ensures.value at right); moved = c.read-result.ensures.kept })

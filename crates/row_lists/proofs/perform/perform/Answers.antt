@@ -15,12 +15,12 @@ no_more done (x ∷ rest) all e f = absurd (omega arith)
 pub loop-call-init : goal.loop-call-init
 loop-call-init g c =
     let made = c.in_ok-answers.ensures in
-    let all = ap length c.into-iter-call-iterator.ensures.into-iter-gives.0 in
+    let all = ap length c.into_iter-call-iterator.ensures.into_iter-gives.0 in
     let many = c.args.calls.ok.0 in
     (tt, tt, refl, omega arith, rw made.items (performed_none (g.S.Store.meaning c.args.store.now)))
 
-pub push-reserved-requires : goal.push-reserved-requires
-push-reserved-requires g c =
+pub push_reserved-requires : goal.push_reserved-requires
+push_reserved-requires g c =
     let step = c.in-Some.ensures.steps in
     let every = c.loop-call.invariant.4.every in
     let all = ap length c.loop-call.invariant.2 in
@@ -36,13 +36,13 @@ loop-call-preserved g c =
       tt,
       tt,
       one_more c.loop-call.yielded _ _ _ _ step.0 c.loop-call.invariant.2,
-      (let room = c.loop-call.invariant.3 in omega (arith, c.push-reserved.ensures.capacity)),
-      rw c.push-reserved.ensures.items (performed_more _ _ _ _ _ _ _ (g.S.Store.lawful c.args.store.now) c.loop-call.invariant.4 c.make.ensures),
+      (let room = c.loop-call.invariant.3 in omega (arith, c.push_reserved.ensures.capacity)),
+      rw c.push_reserved.ensures.items (performed_more _ _ _ _ _ _ _ (g.S.Store.lawful c.args.store.now) c.loop-call.invariant.4 c.make.ensures),
     )
 
 pub returns : goal.returns
 returns g c =
     let rest = c.loop-call.call-iterator in
     let none : length (into_iter_items rest) ≡ 0 = sym rest.rest.ok.0 ∙ c.in-None.ensures.steps.0 in
-    let all = no_more c.loop-call.yielded (into_iter_items rest) _ none c.loop-call.invariant.2 ∙ c.into-iter-call-iterator.ensures.into-iter-gives.0 in
+    let all = no_more c.loop-call.yielded (into_iter_items rest) _ none c.loop-call.invariant.2 ∙ c.into_iter-call-iterator.ensures.into_iter-gives.0 in
     rw all at c.loop-call.invariant.4

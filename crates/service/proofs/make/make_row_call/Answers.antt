@@ -12,6 +12,6 @@ returns-in-Read g c =
     let reads = c.read-result.ensures.reads in
     let right = read_right _ _ c.in-Read.row _ after c.read-result.result reads in
     rw c.in-Read.is (record {
-      made = record { right = ap (read (answered c.read-result.result)) back ∙ (rw c.deref-mut.ensures.value at right); moved = reads.kept };
+      made = record { right = ap (read (answered c.read-result.result)) back ∙ (rw c.deref_mut.ensures.value at right); moved = reads.kept };
       driven = c.read-result.ensures.driven;
     })

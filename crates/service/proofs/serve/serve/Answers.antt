@@ -19,7 +19,7 @@ no_more done (x ∷ rest) all e f = absurd (omega arith)
 pub loop-call-init : goal.loop-call-init
 loop-call-init g c =
     let made = c.in_ok-replies.ensures in
-    let all = ap length c.into-iter-call-iterator.ensures.into-iter-gives.0 in
+    let all = ap length c.into_iter-call-iterator.ensures.into_iter-gives.0 in
     let many = c.args.calls.ok.0 in (
       tt,
       tt,
@@ -30,8 +30,8 @@ loop-call-init g c =
       λ e u f. stands_none (g.S.Socket.meaning c.args.driver.now.socket) e u,
     )
 
-pub push-reserved-requires : goal.push-reserved-requires
-push-reserved-requires g c =
+pub push_reserved-requires : goal.push_reserved-requires
+push_reserved-requires g c =
     let step = c.in-Some.ensures.steps in
     let every = c.loop-call.invariant.4 in
     let all = ap length c.loop-call.invariant.2 in
@@ -45,25 +45,25 @@ pub loop-call-preserved : goal.loop-call-preserved
 loop-call-preserved g c =
     let m = g.S.Socket.meaning in
     let step = c.in-Some.ensures.steps in
-    let items = c.push-reserved.ensures.items in
+    let items = c.push_reserved.ensures.items in
     let every = c.loop-call.invariant.4 in
     let xs = c.loop-call.yielded in
     let rs = vec_items c.loop-call.replies in
     let x = c.in-Some.call in
-    let r = c.make-call.result in
+    let r = c.make_call.result in
     let rest = into_iter_items c.next.new.self in
     let z = m c.args.driver.now.socket in
     let d = m c.loop-call.driver.socket in
-    let d' = m c.make-call.new.driver.socket in
+    let d' = m c.make_call.new.driver.socket in
     let whole = one_more xs _ rest _ x step.0 c.loop-call.invariant.2 in (
       tt,
       tt,
       whole,
-      (let room = c.loop-call.invariant.3 in omega (arith, c.push-reserved.ensures.capacity)),
+      (let room = c.loop-call.invariant.3 in omega (arith, c.push_reserved.ensures.capacity)),
       ap length items ∙ length_push rs r ∙ ap (λ k. k + 1) every ∙ sym (length_push xs x),
-      rw items (run_more z d d' xs rs x r every c.loop-call.invariant.5 c.make-call.ensures),
+      rw items (run_more z d d' xs rs x r every c.loop-call.invariant.5 c.make_call.ensures),
       λ e u f. rw items (stands_more z d d' xs rs x r every (c.loop-call.invariant.6 e u f)
-          (harmless_in xs rest x (ap all_harmless (sym (append_assoc xs (x ∷ []) rest) ∙ whole) ∙ f)) c.make-call.ensures),
+          (harmless_in xs rest x (ap all_harmless (sym (append_assoc xs (x ∷ []) rest) ∙ whole) ∙ f)) c.make_call.ensures),
     )
 
 pub returns : goal.returns
@@ -71,10 +71,10 @@ returns g c =
     let rest = c.loop-call.call-iterator in
     let none : length (into_iter_items rest) ≡ 0 = sym rest.rest.ok.0 ∙ c.in-None.ensures.steps.0 in
     let all = no_more c.loop-call.yielded (into_iter_items rest) _ none c.loop-call.invariant.2 in
-    let calls = all ∙ c.into-iter-call-iterator.ensures.into-iter-gives.0 in
+    let calls = all ∙ c.into_iter-call-iterator.ensures.into_iter-gives.0 in
     record {
       every = c.loop-call.invariant.4 ∙ ap length calls;
       ran = rw calls at c.loop-call.invariant.5;
-      law = λ e u f. rw calls at (c.loop-call.invariant.6 e u (ap all_harmless c.into-iter-call-iterator.ensures.into-iter-gives.0 ∙ f)).served;
+      law = λ e u f. rw calls at (c.loop-call.invariant.6 e u (ap all_harmless c.into_iter-call-iterator.ensures.into_iter-gives.0 ∙ f)).served;
       refused = tt;
     }

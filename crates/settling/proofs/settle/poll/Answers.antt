@@ -6,7 +6,7 @@ use Rattle.settling.proofs.settle.poll.Goals as goal
 pub returns-in-Ok : goal.returns-in-Ok
 returns-in-Ok g c =
     let m = g.S.Socket.meaning in
-    subst (λ (b : ℕ). Polls (m c.args.socket.now) (m c.read.new.self) b) (sym c.toggle-bit.ensures)
+    subst (λ (b : ℕ). Polls (m c.args.socket.now) (m c.read.new.self) b) (sym c.toggle_bit.ensures)
     (poll_ok (m c.args.socket.now) (m c.read.new.self) c.in-Ok.byte c.requires c.in-Ok.ensures.moves)
 
 pub returns-in-Err : goal.returns-in-Err

@@ -23,14 +23,14 @@ loop-after-preserved g c =
     let m = g.S.Socket.meaning in
     (kept_more (m c.poll.new.socket) (m c.loop-after.socket) (m c.poll-in-loop-after.new.socket) c.first-before.result.bit c.loop-after.before.reads c.loop-after.before.bit
     c.poll-in-loop-after.result c.next-after.result.reads c.next-after.result.bit c.loop-after.invariant c.poll-in-loop-after.ensures c.next-after.ensures.bit c.next-after.ensures.reads
-    c.if-agrees-with.ensures).0
+    c.if-agrees_with.ensures).0
 
 pub loop-after-smaller : goal.loop-after-smaller
 loop-after-smaller g c =
     let m = g.S.Socket.meaning in
     (kept_more (m c.poll.new.socket) (m c.loop-after.socket) (m c.poll-in-loop-after.new.socket) c.first-before.result.bit c.loop-after.before.reads c.loop-after.before.bit
     c.poll-in-loop-after.result c.next-after.result.reads c.next-after.result.bit c.loop-after.invariant c.poll-in-loop-after.ensures c.next-after.ensures.bit c.next-after.ensures.reads
-    c.if-agrees-with.ensures).1
+    c.if-agrees_with.ensures).1
 
 pub returns : goal.returns
 returns g c =
@@ -38,4 +38,4 @@ returns g c =
     kept_done (m c.args.socket.now) (m c.poll.new.socket) (m c.loop-after.socket) (m c.poll-in-loop-after.new.socket) c.first-before.result.bit
     c.loop-after.before.reads c.loop-after.before.bit c.poll-in-loop-after.result c.next-after.result.bit c.next-after.result.reads c.poll.result
     c.requires.some c.poll.ensures c.first-before.ensures.bit c.loop-after.invariant c.poll-in-loop-after.ensures c.next-after.ensures.bit c.next-after.ensures.reads
-    c.if-agrees-with.ensures
+    c.if-agrees_with.ensures

@@ -6,15 +6,15 @@ use Rattle.trace.proofs.names.column_named.Goals as goal
 
 pub returns-in-len2 : goal.returns-in-len2
 returns-in-len2 c =
-    c.of-two.ensures ∙ ap column_named (two_letters c.args.name.now c.from.result c.from-in-len2.result (omega (arith, ltb-true, ltb-false, eqb-true, eqb-false)) c.from.ensures c.from-in-len2.ensures)
+    c.of_two.ensures ∙ ap column_named (two_letters c.args.name.now c.from.result c.from-in-len2.result (omega (arith, ltb-true, ltb-false, eqb-true, eqb-false)) c.from.ensures c.from-in-len2.ensures)
 
 pub returns-in-len3 : goal.returns-in-len3
 returns-in-len3 c =
-    c.of-three.ensures ∙ ap column_named (three_letters c.args.name.now c.from-in-len3.result c.from-in-len3-2.result c.from-in-len3-3.result (omega (arith, ltb-true, ltb-false, eqb-true, eqb-false)) c.from-in-len3.ensures c.from-in-len3-2.ensures c.from-in-len3-3.ensures)
+    c.of_three.ensures ∙ ap column_named (three_letters c.args.name.now c.from-in-len3.result c.from-in-len3-2.result c.from-in-len3-3.result (omega (arith, ltb-true, ltb-false, eqb-true, eqb-false)) c.from-in-len3.ensures c.from-in-len3-2.ensures c.from-in-len3-3.ensures)
 
 pub returns-in-len4 : goal.returns-in-len4
 returns-in-len4 c =
-    c.of-four.ensures ∙ ap column_named (four_letters c.args.name.now c.from-in-len4.result c.from-in-len4-2.result c.from-in-len4-3.result c.from-in-len4-4.result (omega (arith, ltb-true, ltb-false, eqb-true, eqb-false)) c.from-in-len4.ensures c.from-in-len4-2.ensures c.from-in-len4-3.ensures c.from-in-len4-4.ensures)
+    c.of_four.ensures ∙ ap column_named (four_letters c.args.name.now c.from-in-len4.result c.from-in-len4-2.result c.from-in-len4-3.result c.from-in-len4-4.result (omega (arith, ltb-true, ltb-false, eqb-true, eqb-false)) c.from-in-len4.ensures c.from-in-len4-2.ensures c.from-in-len4-3.ensures c.from-in-len4-4.ensures)
 
 pub returns-in-default : goal.returns-in-default
 returns-in-default c = short_name c.args.name.now (omega (arith, ltb-true, ltb-false, eqb-true, eqb-false))

@@ -4,4 +4,4 @@ use Rattle.trace.proofs.column.Columns.from_names.Goals as goal
 
 pub returns : goal.returns
 unfolding names_line
-returns c = record { value = c.read-names.ensures; says = says_order c.args.line.now c.read-names.result c.read-names.ensures }
+returns c = record { value = c.read_names.ensures; says = says_order c.args.line.now c.read_names.result c.read_names.ensures }

@@ -5,6 +5,6 @@ use Rattle.trace.proofs.cycle.Cycle.from_line.Goals as goal
 pub returns : goal.returns
 unfolding value_line
 returns c = record {
-  value = c.read-values.ensures;
-  says = says_cycle c.args.columns c.args.line.now c.read-values.result c.read-values.ensures;
+  value = c.read_values.ensures;
+  says = says_cycle c.args.columns c.args.line.now c.read_values.result c.read_values.ensures;
 }

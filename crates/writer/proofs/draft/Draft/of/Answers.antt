@@ -7,5 +7,5 @@ pub returns : goal.returns
 unfolding text_of
 returns c = record {
   text = search rules;
-  reads = written_reads c.args.cycle c.put-gap.ensures.top c.put-data.ensures.byte;
+  reads = written_reads c.args.cycle c.put_gap.ensures.top c.put_data.ensures.byte;
 }

@@ -12,9 +12,9 @@ put-requires c = omega arith
 
 pub loop-preserved : goal.loop-preserved
 loop-preserved c = (
-  hex_more (c.args.digits - c.loop.counter) (c.args.digits - (c.loop.counter + 1)) c.loop.rest c.hex-char.result
+  hex_more (c.args.digits - c.loop.counter) (c.args.digits - (c.loop.counter + 1)) c.loop.rest c.hex_char.result
       (draft_text c.loop.self) (draft_text c.put.new.self) (hex_text c.args.digits c.args.number ++ draft_text c.args.self.now)
-      (omega arith) c.hex-char.ensures c.put.ensures.text c.loop.invariant.0,
+      (omega arith) c.hex_char.ensures c.put.ensures.text c.loop.invariant.0,
   omega (arith, c.put.ensures.start),
 )
 

@@ -8,7 +8,7 @@ pub returns : goal.returns
 returns g c =
     let b = g.B.Behaviour in
     let s = c.args.self.now in
-    let inside = leb-false (128 * count_of s) c.args.address (sym c.is-outside.ensures ∙ c.if-is-outside.false) in
+    let inside = leb-false (128 * count_of s) c.args.address (sym c.is_outside.ensures ∙ c.if-is_outside.false) in
     let m = c.step.new.self in
     let d = c.step-2.new.self in
     let e = c.step.ensures in
