@@ -15,5 +15,5 @@ returns-in-Load g c =
     record {
       answered = subst (λ (x : Call). Answered x c.load_answer.result (s.meaning p) (s.meaning q)) is (result_err c.load.result, c.load.ensures.moves, c.load_answer.ensures);
       own = subst (λ (x : Call). s.promise p x c.load_answer.result q) is
-          (subst (λ (a : Answer). s.promise p (Calls.Load c.in-Load.load c.in-Load.gap) a q) (sym c.load_answer.ensures) c.load.ensures.own_val);
+          (subst (λ (a : Answer). s.promise p (Calls.Load c.in-Load.load c.in-Load.gap) a q) (sym c.load_answer.ensures) c.load.ensures.own);
     }

@@ -23,7 +23,7 @@ loop-call-preserved g c =
       omega arith,
       omega arith,
       run_more xs os _ i _ _ more same items _ (m c.loop-call.socket) _ c.loop-call.invariant.3 c.make_call.ensures.answered,
-      kept_more xs os _ i _ _ more same items g.S.Socket.promise _ c.loop-call.socket _ c.loop-call.invariant.4 c.make_call.ensures.own_val,
+      kept_more xs os _ i _ _ more same items g.S.Socket.promise _ c.loop-call.socket _ c.loop-call.invariant.4 c.make_call.ensures.own,
     )
 
 pub returns : goal.returns

@@ -10,7 +10,7 @@ returns g c =
     let xs = c.args.calls.now in
     let p = c.args.part.now in
     let q = c.replay.new.socket in
-    let told = exact_made b.style b.times vec_items r xs p q e.each e.own_val in
+    let told = exact_made b.style b.times vec_items r xs p q e.each e.own in
     record {
       answers = made_map r _ _ (λ v t. t.0) told;
       chip = made_map r _ _ (λ v t. t.1) told;

@@ -15,7 +15,7 @@ no_more done (x ∷ rest) all e f = absurd (omega arith)
 pub loop-call-init : goal.loop-call-init
 loop-call-init g c =
     let made = c.in_ok-answers.ensures in
-    let all = ap length c.into_iter-call-iterator.ensures.into_iter-gives.0 in
+    let all = ap length c.into_iter-call-iterator.ensures.into_iter_gives.0 in
     let many = c.args.calls.ok.0 in
     (tt, tt, refl, omega arith, rw made.items (performed_none (g.S.Store.meaning c.args.store.now)))
 
@@ -44,5 +44,5 @@ pub returns : goal.returns
 returns g c =
     let rest = c.loop-call.call-iterator in
     let none : length (into_iter_items rest) ≡ 0 = sym rest.rest.ok.0 ∙ c.in-None.ensures.steps.0 in
-    let all = no_more c.loop-call.yielded (into_iter_items rest) _ none c.loop-call.invariant.2 ∙ c.into_iter-call-iterator.ensures.into_iter-gives.0 in
+    let all = no_more c.loop-call.yielded (into_iter_items rest) _ none c.loop-call.invariant.2 ∙ c.into_iter-call-iterator.ensures.into_iter_gives.0 in
     rw all at c.loop-call.invariant.4

@@ -19,7 +19,7 @@ no_more done (x ∷ rest) all e f = absurd (omega arith)
 pub loop-call-init : goal.loop-call-init
 loop-call-init g c =
     let made = c.in_ok-replies.ensures in
-    let all = ap length c.into_iter-call-iterator.ensures.into_iter-gives.0 in
+    let all = ap length c.into_iter-call-iterator.ensures.into_iter_gives.0 in
     let many = c.args.calls.ok.0 in (
       tt,
       tt,
@@ -71,10 +71,10 @@ returns g c =
     let rest = c.loop-call.call-iterator in
     let none : length (into_iter_items rest) ≡ 0 = sym rest.rest.ok.0 ∙ c.in-None.ensures.steps.0 in
     let all = no_more c.loop-call.yielded (into_iter_items rest) _ none c.loop-call.invariant.2 in
-    let calls = all ∙ c.into_iter-call-iterator.ensures.into_iter-gives.0 in
+    let calls = all ∙ c.into_iter-call-iterator.ensures.into_iter_gives.0 in
     record {
       every = c.loop-call.invariant.4 ∙ ap length calls;
       ran = rw calls at c.loop-call.invariant.5;
-      law = λ e u f. rw calls at (c.loop-call.invariant.6 e u (ap all_harmless c.into_iter-call-iterator.ensures.into_iter-gives.0 ∙ f)).served;
+      law = λ e u f. rw calls at (c.loop-call.invariant.6 e u (ap all_harmless c.into_iter-call-iterator.ensures.into_iter_gives.0 ∙ f)).served;
       refused = tt;
     }

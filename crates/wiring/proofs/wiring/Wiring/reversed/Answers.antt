@@ -10,7 +10,7 @@ pub invariant_of-result : goal.invariant_of-result
 invariant_of-result c =
     let w = c.args.self.now in
     let all = back_all w.lines c.loop-j.lines c.loop-j.invariant.0 (λ k h. c.loop-j.invariant.1 k (omega arith)) in
-    (subst EachOnce (sym all) (reversed_once w.lines w.once), tt)
+    record { once = subst EachOnce (sym all) (reversed_once w.lines w.once) }
 
 pub returns : goal.returns
 returns c =
