@@ -2,7 +2,7 @@
 use row_lists::calls::RowCall;
 use row_lists::perform::perform;
 use rows::store::{ROW_BYTES, Store};
-use texts::rows::{Answer, Call};
+use texts::row_calls::{Answer, Call};
 
 // Makes the calls, and prints each with its answer.
 pub(crate) fn calls<S: Store>(

@@ -2,4 +2,4 @@
 #![tactic(auto)]
 
 pub mod bus_calls;
-pub mod rows;
+pub mod row_calls;

@@ -16,8 +16,8 @@ pub returns-in-len4 : goal.returns-in-len4
 returns-in-len4 c =
     c.of_four.ensures ∙ ap column_named (four_letters c.args.name.now c.from-in-len4.result c.from-in-len4-2.result c.from-in-len4-3.result c.from-in-len4-4.result (omega (arith, ltb-true, ltb-false, eqb-true, eqb-false)) c.from-in-len4.ensures c.from-in-len4-2.ensures c.from-in-len4-3.ensures c.from-in-len4-4.ensures)
 
-pub returns-in-default : goal.returns-in-default
-returns-in-default c = short_name c.args.name.now (omega (arith, ltb-true, ltb-false, eqb-true, eqb-false))
+pub returns-in_default : goal.returns-in_default
+returns-in_default c = short_name c.args.name.now (omega (arith, ltb-true, ltb-false, eqb-true, eqb-false))
 
-pub returns-in-default·2 : goal.returns-in-default·2
-returns-in-default·2 c = long_name c.args.name.now (omega (arith, ltb-true, ltb-false, eqb-true, eqb-false))
+pub returns-in_default-2 : goal.returns-in_default-2
+returns-in_default-2 c = long_name c.args.name.now (omega (arith, ltb-true, ltb-false, eqb-true, eqb-false))
