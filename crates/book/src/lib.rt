@@ -161,7 +161,7 @@ mod tests {
         assert_eq!(rt; log.faults.get(2).copied(), None);
         log.faults.clear();
         assert_eq!(rt; log.fault(13), Ok(()));
-        assert_eq!(rt; log.faults.as_slice(), &[(4, 13)]);
+        assert_eq!(rt; log.faults.as_slice(), [(4, 13)].as_slice());
     }
 
     #[test]

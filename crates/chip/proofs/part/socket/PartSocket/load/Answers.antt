@@ -42,5 +42,5 @@ returns-in-Done g c =
           l (meant b.style d) Answers.Loaded inside f.0 (ap load_answer o);
     }
 
-pub prove-unreachable-requires : goal.prove-unreachable-requires
-prove-unreachable-requires g c = no_byte (load_refusal (meant g.B.Behaviour.style c.step.new.self).phase (at c.args.address c.args.byte)) _ c.in-Byte.ensures.1
+pub unreachable-requires : goal.unreachable-requires
+unreachable-requires g c = no_byte (load_refusal (meant g.B.Behaviour.style c.step.new.self).phase (at c.args.address c.args.byte)) _ c.in-Byte.ensures.1
