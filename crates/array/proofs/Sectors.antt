@@ -1,7 +1,7 @@
 -- A page laid over a filling, and a sector written byte by byte. Assumes nothing.
-use Rattle.std.proofs.Common.{◌≡◌, ℕ, zero, suc, ◌+◌, ◌-◌, ◌*◌, ◌<◌, ◌≤◌, min, Bool, List, [], ◌∷◌, ◌++◌, length, get_or, take, drop, set, replicate, Some, None, Option, unwrap_or, sym, refl, ap, ◌∙◌, subst, add-zero, add_assoc, add_comm, add-one, arith, length-append, length-take, take-take}
+use Rattle.std.proofs.Common.{◌≡◌, ℕ, zero, suc, ◌+◌, ◌-◌, ◌*◌, ◌<◌, ◌≤◌, Bool, List, [], ◌∷◌, ◌++◌, length, get_or, take, drop, set, None, Option, unwrap_or, sym, refl, ap, ◌∙◌, subst, add-zero, add-one, arith, take-take}
 use lib.Seq.{paste, paste-suc, length_paste_head, take-append-add}
-use Rattle.std.proofs.lemmas.List.{get_or_append_left, get_or-append_right, get_or-take, get_or-drop, drop-take}
+use Rattle.std.proofs.lemmas.List.{get_or-append_right, get_or-take, get_or-drop, drop-take}
 use Rattle.bus.specs.Meaning.{State}
 use Rattle.bus.specs.Outcomes.{programmed, with_sector}
 use Rattle.array.specs.Filling.{fill_from}

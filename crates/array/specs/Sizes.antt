@@ -1,13 +1,13 @@
 -- The sizes that every array keeps. Assumes nothing.
 -- It stands here, and not among the proofs, since the ghost member of a part, which shows its meaning lawful, cites it.
-use Rattle.std.specs.Prelude.{◌≡◌, ℕ, zero, suc, ◌+◌, ◌*◌, ◌<◌, ◌≤◌, Bool, true, false, cond, ◌&&◌, List, [], ◌∷◌, length, Option, nat_le, refl}
-use Rattle.std.proofs.Common.{ap, ◌∙◌, arith, length-take}
+use Rattle.std.specs.Prelude.{◌≡◌, ℕ, zero, suc, ◌+◌, ◌*◌, ◌<◌, ◌≤◌, ◌&&◌, List, length, Option, nat_le, refl}
+use Rattle.std.proofs.Common.{ap, arith, length-take}
 use Rattle.std.proofs.lemmas.Bool.{cond_both, leb-true, leb-false, le-leb, and_parts}
 use Rattle.period.specs.declared.open.Target.{Target}
 use Rattle.period.specs.declared.open.Target.TheVariants.{Nothing, Sector, Several}
 use Rattle.period.specs.declared.open.OpenPeriod.{OpenPeriod}
 use Rattle.period.specs.Meaning.{period_of, data_of, data_at}
-use Rattle.bus.specs.Meaning.{State, Period}
+use Rattle.bus.specs.Meaning.{State}
 use Rattle.bus.specs.Codes.{kind}
 use Rattle.bus.specs.Sizes.{reach, settle_length}
 use Rattle.kinds.specs.Style.{Style}

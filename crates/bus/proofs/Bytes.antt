@@ -1,5 +1,5 @@
 -- The law of bytes over whole runs: one invariant, kept by each call. Assumes nothing.
-use Rattle.std.proofs.Common.{◌≡◌, ℕ, suc, ◌+◌, ◌-◌, ◌*◌, ◌/◌, ◌%◌, ◌<◌, ◌≤◌, Bool, true, false, cond, not, ◌&&◌, ◌||◌, eqb, ltb, leb, ◌⊎◌, List, [], ◌∷◌, ◌++◌, length, get_or, Some, None, Ok, Err, MatchBool, Option, Result, sym, refl, ap, ◌∙◌, subst, inl, inr, arith}
+use Rattle.std.proofs.Common.{◌≡◌, ℕ, ◌+◌, ◌-◌, ◌*◌, ◌<◌, ◌≤◌, Bool, true, false, cond, not, ◌&&◌, ltb, leb, ◌⊎◌, List, [], ◌∷◌, length, get_or, Some, None, Ok, Err, Option, Result, sym, refl, ap, ◌∙◌, subst, inl, inr, arith}
 use Rattle.std.proofs.lemmas.Bool.{cases_Bool, cond-true, cond-false, ltb-true, leb-true, leb-false, le-leb, lt-leb, and_left, and_right}
 use Rattle.std.proofs.lemmas.Bool.Decides.{when_true, when_false}
 use Rattle.std.specs.Result.{result_err}
@@ -7,7 +7,7 @@ use Rattle.bus.specs.declared.load.Load.{Load}
 use Rattle.bus.specs.declared.call.Call.{Call}
 use Rattle.bus.specs.declared.call.Call.TheVariants as Calls
 use Rattle.bus.specs.declared.refusal.BusRefusal.{BusRefusal}
-use Rattle.bus.specs.declared.refusal.BusRefusal.TheVariants.{Outside, Busy, ReservedCode}
+use Rattle.bus.specs.declared.refusal.BusRefusal.TheVariants.{Outside, ReservedCode}
 use Rattle.bus.specs.declared.call.Answer.{Answer}
 use Rattle.bus.proofs.Summaries.{summary}
 use Rattle.bus.proofs.Settling.{Good, Inside, good_step}

@@ -1,5 +1,5 @@
 -- A period of loads inside the part names sectors inside the part. Assumes nothing.
-use Rattle.std.proofs.Common.{◌≡◌, ℕ, ◌+◌, ◌*◌, ◌/◌, ◌<◌, ◌≤◌, Bool, true, false, cond, eqb, length, refl, arith}
+use Rattle.std.proofs.Common.{ℕ, ◌*◌, ◌/◌, ◌<◌, ◌≤◌, eqb, length, arith}
 use Rattle.std.proofs.lemmas.Bool.{cond_both}
 use Rattle.bus.specs.declared.load.Load.{Load}
 use Rattle.bus.specs.declared.kind.Kind.{Kind}

@@ -1,25 +1,21 @@
 -- What one period does to a byte, by its data loads. Assumes nothing.
-use Rattle.std.proofs.Common.{◌≡◌, ℕ, suc, ◌+◌, ◌-◌, ◌*◌, ◌/◌, ◌%◌, ◌<◌, ◌≤◌, min, Bool, true, false, cond, not, ◌&&◌, ◌||◌, eqb, ltb, leb, ◌≢◌, ◌⊎◌, List, [], ◌∷◌, ◌++◌, length, get_or, take, drop, set, replicate, Some, None, Option, unwrap_or, sym, refl, ap, ◌∙◌, subst, inl, inr, arith, length-append, length-take, rules}
+use Rattle.std.proofs.Common.{◌≡◌, ℕ, ◌+◌, ◌-◌, ◌*◌, ◌/◌, ◌%◌, ◌<◌, ◌≤◌, Bool, true, false, cond, not, ◌&&◌, eqb, List, [], ◌∷◌, ◌++◌, length, get_or, take, drop, set, Some, None, Option, unwrap_or, sym, refl, ap, ◌∙◌, subst, inl, inr, arith}
 use lib.Seq.{paste, length_paste_head}
-use Rattle.std.proofs.lemmas.List.{take_all, length-take-le, get_or-set_same, get_or-set_other, length-set, get_or-replicate, length-replicate, get_or_append_left, get_or-append_right, get_or-take, get_or-drop}
+use Rattle.std.proofs.lemmas.List.{length-take-le, get_or-set_same, get_or-set_other, length-set, get_or-replicate, get_or_append_left, get_or-append_right, get_or-take, get_or-drop}
 use Rattle.std.proofs.lemmas.List.Edits.{length-paste}
 use Rattle.std.proofs.lemmas.Bool.{cases_Bool, cases_lt, cases_eq, cond-true, cond-false, eq-eqb, ne_eqb, and_parts, and_left, and_right, eqb-true}
 use Rattle.bus.specs.declared.load.Load.{Load}
 use Rattle.bus.specs.declared.kind.Kind.{Kind}
-use Rattle.bus.specs.declared.kind.Kind.TheVariants.{Coded, Lift, Low, High, Plain}
-use Rattle.bus.specs.declared.outcome.Outcome.{Outcome}
-use Rattle.bus.specs.declared.outcome.Outcome.TheVariants.{Set, Barred, Empty, Mixed, Locked, Written}
 use Rattle.bus.proofs.Summaries.{data_by, summary, kind_is, data_is}
 use Rattle.bus.proofs.Expected.{expected, Meets}
 use Rattle.bus.proofs.Reach.{extend_reach}
 use Rattle.std.specs.List.{AllByRecursion as All}
 use Rattle.bus.proofs.Pages.{get_or-programmed}
 use Rattle.bus.specs.Meaning.{State, DataLoads, none, one, several}
-use Rattle.bus.specs.Codes.{at, matches, kind}
 use Rattle.bus.specs.Periods.{blank, add_data}
 use Rattle.bus.specs.Outcomes.{in_locked, is_locked, outcome_of, programmed, with_sector, bytes_after, settle_as, settle}
 use Rattle.bus.specs.History.{is_nil}
-use Rattle.bus.specs.Law.{kind_of_loads, data_loads, Flags, flags_of, flags_as, flags_after, all_in, permitted, could_write, last_load_at}
+use Rattle.bus.specs.Law.{kind_of_loads, data_loads, Flags, flags_of, flags_as, flags_after, all_in, permitted, last_load_at}
 use Rattle.bus.specs.Sizes.{reach, length-programmed, writes, still, still_several}
 
 -- what a add_data matches of the data loads

@@ -1,5 +1,5 @@
 -- What holds of the meaning of every part, in every state. Assumes nothing.
-use Rattle.std.specs.Prelude.{◌≡◌, ℕ, ◌-◌, ◌*◌, ◌^◌, ◌<◌, ◌≤◌, length}
+use Rattle.std.specs.Prelude.{◌≡◌, ◌-◌, ◌*◌, ◌^◌, ◌<◌, ◌≤◌, length}
 use Rattle.bus.specs.Meaning.{Phase, rest, opened, cycle, Chip}
 
 -- an open period has not closed, a running cycle has not ended, and a cycle time is at most 10,000

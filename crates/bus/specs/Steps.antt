@@ -1,5 +1,5 @@
 -- How each bus call moves the meaning of a part. A call holds by some choice of the part's. Assumes nothing.
-use Rattle.std.specs.Prelude.{◌≡◌, ℕ, Bool, cond, List, Some, None, Ok, Err, MatchBool, Option, Result}
+use Rattle.std.specs.Prelude.{◌≡◌, ℕ, cond, List, Some, Ok, Err, MatchBool, Option, Result}
 use Rattle.bus.specs.declared.load.Load.{Load}
 use Rattle.bus.specs.declared.identity.Identity.{Identity}
 use Rattle.bus.specs.declared.refusal.BusRefusal.{BusRefusal}

@@ -1,5 +1,5 @@
 -- Worked cases at the edges of the rules: what the definitions compute, and what is expected. Assumes nothing.
-use Rattle.std.specs.Prelude.{ℕ, ◌+◌, ◌*◌, Bool, cond, List, [], ◌∷◌, ◌++◌, map, length, take, drop, replicate, None, codes}
+use Rattle.std.specs.Prelude.{ℕ, ◌*◌, Bool, cond, List, [], ◌∷◌, ◌++◌, map, length, take, drop, replicate, codes}
 use Rattle.bus.specs.declared.call.Call.{Call}
 use Rattle.bus.specs.declared.call.Call.TheVariants as Calls
 use Rattle.bus.specs.declared.call.Answer.{Answer}

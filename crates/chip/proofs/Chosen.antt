@@ -1,26 +1,23 @@
 -- What a part chooses, and that its calls are then those of a socket. Assumes nothing.
-use Rattle.std.proofs.Common.{◌≡◌, ℕ, ◌+◌, ◌-◌, ◌*◌, ◌/◌, ◌<◌, ◌≤◌, Bool, true, false, cond, not, ◌&&◌, eqb, ltb, List, length, get_or, Some, None, Ok, Err, Option, Result, sym, refl, ap, ◌∙◌, subst, arith}
+use Rattle.std.proofs.Common.{◌≡◌, ℕ, ◌+◌, ◌-◌, ◌*◌, ◌/◌, ◌<◌, Bool, true, false, cond, eqb, List, length, get_or, Some, None, Ok, Option, sym, refl, ap, ◌∙◌, subst, arith}
 use Rattle.std.specs.List.{AllByRecursion as All}
-use Rattle.std.proofs.lemmas.Bool.{lt-ltb, le-ltb}
+use Rattle.std.proofs.lemmas.Bool.{lt-ltb}
 use Rattle.std.proofs.ByRecursion.{All-from_get_or}
 use Rattle.bus.specs.declared.refusal.BusRefusal.{BusRefusal}
-use Rattle.bus.specs.declared.refusal.BusRefusal.TheVariants.{Outside}
 use Rattle.bus.specs.declared.load.Load.{Load}
-use Rattle.bus.specs.declared.call.Call.{Call}
 use Rattle.bus.specs.declared.call.Call.TheVariants as Calls
 use Rattle.bus.specs.declared.call.Answer.{Answer}
 use Rattle.bus.specs.declared.call.Answer.TheVariants as Answers
-use Rattle.chip.specs.declared.phase.Reply.{Reply}
 use Rattle.chip.specs.declared.phase.Reply.TheVariants.{Done, Byte, Refused}
 use Rattle.bus.specs.Meaning.{Chip, Phase, rest, opened, cycle}
 use Rattle.bus.specs.Time.{passed, is_rest}
 use Rattle.bus.specs.Choices.{Choice}
-use Rattle.bus.specs.Status.{bit, status, read_byte, after_read}
+use Rattle.bus.specs.Status.{status, read_byte, after_read}
 use Rattle.bus.specs.Refusals.{load_refusal}
-use Rattle.bus.specs.Steps.{Reads, Loads, Waits, loaded}
+use Rattle.bus.specs.Steps.{Reads, Loads, Waits}
 use Rattle.kinds.specs.Style.{Style, Timely}
 use Rattle.bus.specs.History.{load_answer}
-use Rattle.array.specs.Filling.{fill_from, fill_sector, fill_for, sector_of}
+use Rattle.array.specs.Filling.{fill_sector}
 use Rattle.chip.specs.Exact.{fill_at, loaded_by, status_by, byte_by, closes, Onward, Exactly}
 use Rattle.chip.specs.Meaning.{reply_to}
 use Rattle.array.specs.Sizes.{length-fill}

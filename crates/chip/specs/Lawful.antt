@@ -1,6 +1,6 @@
 -- The meaning of every part is lawful. Assumes nothing.
 -- It stands here, and not among the proofs, since the ghost member of a part cites it.
-use Rattle.std.specs.Prelude.{◌≡◌, ℕ, ◌-◌, ◌*◌, ◌<◌, ◌≤◌, min, max, length}
+use Rattle.std.specs.Prelude.{◌≡◌, ℕ, ◌*◌, length}
 use Rattle.std.proofs.Common.{arith}
 use Rattle.chip.specs.declared.part.Part.{Part}
 use Rattle.chip.specs.declared.phase.Phase.{Phase as Stage}

@@ -1,5 +1,5 @@
 -- What a part means. Assumes nothing.
-use Rattle.std.specs.Prelude.{◌≡◌, ℕ, ◌+◌, ◌-◌, ◌*◌, ◌^◌, ◌<◌, min, Bool, cond, not, Some, None, Option, nat_lt}
+use Rattle.std.specs.Prelude.{◌≡◌, ℕ, ◌-◌, ◌*◌, ◌^◌, ◌<◌, min, Bool, cond, not, Some, None, Option, nat_lt}
 use Rattle.chip.specs.declared.phase.Phase.{Phase as Stage}
 use Rattle.chip.specs.declared.phase.Phase.TheVariants.{Rest, Open, Cycle}
 use Rattle.chip.specs.declared.phase.Event.{Event}

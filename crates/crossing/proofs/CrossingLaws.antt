@@ -1,8 +1,8 @@
 -- What a call below a crossing does to what the crossing shows.
-use Rattle.std.proofs.Common.{◌≡◌, ℕ, ◌<◌, cond, List, ◌++◌, map, length, get_or, take, drop, Ok, Err, Result, sym, refl, ap, ◌∙◌, subst, arith}
+use Rattle.std.proofs.Common.{◌≡◌, ℕ, ◌<◌, List, ◌++◌, map, length, get_or, take, drop, Ok, Err, Result, ap, ◌∙◌, arith}
 use Rattle.std.proofs.lemmas.List.{length-map, take_at, drop_at}
 use Rattle.std.proofs.lemmas.Bool.Decides.{nat_tests}
-use Rattle.rows.specs.RowCalls.{Reads, Writes, Wrote, read_check, write_check}
+use Rattle.rows.specs.RowCalls.{Reads, Writes, Wrote, write_check}
 use Rattle.rows.specs.Rows.{Rows, Lawful, Kept, Stored}
 use Rattle.rows.specs.declared.refusal.RowRefusal.{RowRefusal}
 use Rattle.wiring.specs.Lines.{EachOnce, crossed, reversed}

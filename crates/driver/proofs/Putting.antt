@@ -1,5 +1,5 @@
 -- Loads of a period that the driver makes. Assumes nothing.
-use Rattle.std.proofs.Common.{◌≡◌, ℕ, zero, suc, ◌+◌, ◌*◌, ◌/◌, ◌%◌, ◌<◌, ◌≤◌, Bool, true, false, cond, eqb, ltb, ◌⊎◌, List, [], ◌∷◌, ◌++◌, map, length, get_or, take, set, Some, None, MatchBool, Option, sym, refl, ap, ◌∙◌, subst, inl, inr, zero-add, arith}
+use Rattle.std.proofs.Common.{◌≡◌, ℕ, zero, suc, ◌+◌, ◌*◌, ◌/◌, ◌%◌, ◌<◌, ◌≤◌, Bool, true, false, cond, eqb, ltb, List, [], ◌∷◌, ◌++◌, map, length, get_or, take, set, Some, None, MatchBool, Option, sym, refl, ap, ◌∙◌, subst, inl, inr, zero-add, arith}
 use lib.Seq.{paste}
 use Rattle.std.proofs.lemmas.List.Edits.{paste_more, paste_none}
 use Rattle.std.proofs.lemmas.List.{length-map, append-nil, take_all}
@@ -14,7 +14,7 @@ use Rattle.bus.specs.Outcomes.{settle, programmed, is_locked, bytes_after, with_
 use Rattle.bus.specs.Periods.{extend, fresh, blank, add_data, data_with, more_with}
 use Rattle.bus.specs.Steps.{Loads, LoadsInside, loaded, loaded_in, with_load}
 use Rattle.bus.specs.Time.{passed}
-use Rattle.driver.specs.Loading.{Puts, Opened, extend_all, Code, coded, lift, code_loads, code_kind, code_period, Coding, first_of, Sent}
+use Rattle.driver.specs.Loading.{Puts, Opened, Code, coded, lift, code_loads, code_kind, code_period, Coding, first_of, Sent}
 
 pub puts : (l : Load) (c d : Chip) (o : Option BusRefusal) → l.address < 128 * c.sectors → Loads l 1 c d o → Puts l c d
 puts l c d o h p =

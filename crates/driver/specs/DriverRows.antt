@@ -1,5 +1,5 @@
 -- The rows that a part shows. Assumes nothing.
-use Rattle.std.specs.Prelude.{ℕ, ◌*◌, ◌/◌, ◌<◌, min, List, refl}
+use Rattle.std.specs.Prelude.{ℕ, refl}
 use Rattle.std.proofs.Common.{arith}
 use Rattle.bus.specs.Lawful as Bus
 use Rattle.bus.specs.Meaning.{Chip, State}

@@ -1,7 +1,7 @@
 -- The parts of a line, and the line that they make again.
-use Rattle.std.proofs.Common.{◌≡◌, ℕ, ◌+◌, ◌<◌, ◌≤◌, Bool, true, false, cond, ◌&&◌, eqb, ltb, List, [], ◌∷◌, ◌++◌, length, sym, refl, ap, ◌∙◌, subst, inl, inr, arith}
+use Rattle.std.proofs.Common.{◌≡◌, ℕ, true, false, cond, ◌&&◌, eqb, List, [], ◌∷◌, ◌++◌, length, sym, refl, ap, ◌∙◌, inl, inr}
 use Rattle.std.proofs.lemmas.Bool.{ne_eqb, eqb-true, eqb-false, cases_Bool, lt-ltb, ltb-true, and_parts, and_from, false≢true}
-use Rattle.fields.specs.Splitting.{parts, grown, filled, are_four, joined, NoSpace, IsField, FourFields}
+use Rattle.fields.specs.Splitting.{parts, grown, filled, are_four, NoSpace, FourFields}
 
 -- parts with single spaces between
 abbrev pub spaced : List (List ℕ) → List ℕ

@@ -1,5 +1,5 @@
 -- The forms of the values in a line.
-use Rattle.std.specs.Prelude.{ℕ, ◌+◌, ◌*◌, Bool, true, false, cond, ◌&&◌, ◌||◌, List, [], ◌∷◌, length, Some, None, Option, ◌==◌, nat_le, nat_lt}
+use Rattle.std.specs.Prelude.{ℕ, ◌+◌, ◌*◌, Bool, false, cond, ◌&&◌, ◌||◌, List, [], ◌∷◌, length, Some, None, Option, ◌==◌, nat_le, nat_lt}
 use Rattle.std.specs.Char.{digit_value}
 use Rattle.fields.specs.declared.values.Op.{Op}
 use Rattle.fields.specs.declared.values.Op.TheVariants.{Load, Read, Wait}

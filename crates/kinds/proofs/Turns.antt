@@ -1,7 +1,7 @@
 -- A list taken in turn, over and over. Assumes nothing.
-use Rattle.std.proofs.Common.{◌≡◌, ℕ, ◌+◌, ◌%◌, ◌<◌, ◌≤◌, List, [], ◌∷◌, length, get_or, sym, refl, ap, ◌∙◌, add-zero, add_assoc, add_comm, arith}
+use Rattle.std.proofs.Common.{◌≡◌, ℕ, ◌+◌, ◌%◌, ◌<◌, List, [], ◌∷◌, length, get_or, refl, ap, ◌∙◌, add-zero, add_assoc, add_comm, arith}
 use native.Mathlib.Nat.{mod-add-mod}
-use Rattle.kinds.specs.Style.{nearest, in_turn, uneven_times}
+use Rattle.kinds.specs.Style.{nearest, uneven_times}
 
 pub turn_now : (ts : List ℕ) (at : ℕ) → 0 < length ts → nearest (get_or ts (at % length ts) 0) ≡ uneven_times ts at 0
 turn_now [] at h = absurd (omega arith)

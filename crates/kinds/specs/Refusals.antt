@@ -1,5 +1,5 @@
 -- The refusals of the check: their numbers, and when each is met. Assumes nothing.
-use Rattle.std.specs.Prelude.{ℕ, ◌*◌, Bool, cond, ◌&&◌, List, length, Some, None, Option, ◌==◌, nat_le}
+use Rattle.std.specs.Prelude.{ℕ, ◌*◌, cond, ◌&&◌, List, length, Some, None, Option, ◌==◌, nat_le}
 use Rattle.kinds.specs.declared.refusal.PartRefusal.{PartRefusal}
 use Rattle.kinds.specs.declared.refusal.PartRefusal.TheVariants.{Memory, CycleTime}
 

@@ -1,6 +1,6 @@
 -- What a part chooses: the filling of unloaded bytes, the free bits of a status, the first bit 6, and cycle times.
 -- Assumes nothing.
-use Rattle.std.specs.Prelude.{◌≡◌, ℕ, ◌+◌, ◌-◌, ◌%◌, ◌<◌, ◌≤◌, min, max, Bool, true, false, List, [], ◌∷◌, length, slice_index}
+use Rattle.std.specs.Prelude.{ℕ, ◌+◌, ◌-◌, ◌%◌, ◌<◌, ◌≤◌, min, max, Bool, true, false, List, [], ◌∷◌, length, slice_index}
 use Rattle.std.proofs.Common.{arith}
 
 -- what an unloaded byte becomes, bits 5 to 0 of every status, and bit 6 of the first

@@ -1,6 +1,6 @@
 -- What a pair shows.
-use Rattle.std.specs.Prelude.{◌≡◌, ℕ, ◌+◌, ◌-◌, ◌*◌, ◌/◌, ◌%◌, ◌<◌, ◌≤◌, min, cond, List, length, MatchBool, Result, ◌==◌, nat_lt}
-use Rattle.std.proofs.Common.{⊎_elim, ◌∙◌, ap, arith}
+use Rattle.std.specs.Prelude.{◌≡◌, ℕ, ◌+◌, ◌-◌, ◌*◌, ◌/◌, ◌%◌, ◌≤◌, min, cond, List, MatchBool, Result, ◌==◌, nat_lt}
+use Rattle.std.proofs.Common.{⊎_elim, ◌∙◌, arith}
 use Rattle.std.proofs.lemmas.Bool.{cases_lt, lt-ltb, le-ltb}
 use Rattle.rows.specs.RowCalls.{Wrote}
 use Rattle.rows.specs.Rows.{Row, Rows, Lawful, Kept}

@@ -1,12 +1,11 @@
 -- A part's promise over a whole list of calls: its answers are those that the definitions compute. Assumes nothing.
-use Rattle.std.proofs.Common.{◌≡◌, ℕ, suc, ◌+◌, Bool, true, false, List, [], ◌∷◌, length, IfOk, Ok, Err, Result, sym, refl, ap, ◌∙◌, ap₂, arith}
+use Rattle.std.proofs.Common.{◌≡◌, ℕ, Bool, true, false, List, [], ◌∷◌, length, IfOk, Ok, Err, Result, sym, refl, ap, ◌∙◌, ap₂, arith}
 use mathlib.Core.Path.{fun_ext}
 use Rattle.bus.specs.declared.call.Call.{Call}
 use Rattle.bus.specs.declared.call.Answer.{Answer}
 use Rattle.chip.specs.declared.part.Part.{Part}
-use Rattle.bus.specs.Meaning.{Chip}
 use Rattle.kinds.specs.Style.{Style}
-use Rattle.chip.specs.Exact.{Onward, answer_of, closes_in, after_call}
+use Rattle.chip.specs.Exact.{Onward, closes_in}
 use Rattle.parts.specs.Runs.{times_after, answers_by, chip_by, times_by}
 use Rattle.chip.specs.Meaning.{meant, Promised}
 use Rattle.bus.specs.History.{Kept, history}

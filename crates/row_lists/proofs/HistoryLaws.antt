@@ -1,11 +1,11 @@
 -- The law of a list of row calls, one call more.
-use Rattle.std.proofs.Common.{◌≡◌, ℕ, ◌+◌, ◌<◌, ◌≤◌, Bool, true, false, cond, eqb, ltb, leb, List, [], ◌∷◌, ◌++◌, length, get_or, take, is_some, Some, None, Ok, Err, vec_items, Option, Result, unwrap_or, sym, refl, ap, ◌∙◌, subst, ⊎_elim, arith}
+use Rattle.std.proofs.Common.{◌≡◌, ℕ, ◌+◌, ◌<◌, ◌≤◌, true, false, cond, eqb, ltb, leb, List, [], ◌∷◌, ◌++◌, length, is_some, Some, None, Ok, Err, vec_items, Option, Result, unwrap_or, sym, refl, ap, ◌∙◌, subst, ⊎_elim, arith}
 use Rattle.std.proofs.lemmas.List.{length_push, take_at, take-append-le, get_or_append_left, get_or_at}
 use Rattle.std.proofs.lemmas.Bool.{cases_eq, cases_lt, eq-eqb, ne_eqb}
 use Rattle.rows.specs.Refusals.{answered}
-use Rattle.row_lists.specs.Histories.{Event, history, Taken, accepted, taken_by, or_else, last_write, shows, told, due, count, read, read_due, write, lock_due, Moved, Made, Obeyed, Performed}
-use Rattle.rows.specs.RowCalls.{read_check, write_check, lock_check, Reads}
-use Rattle.rows.specs.Rows.{Row, Rows, Lawful, showing}
+use Rattle.row_lists.specs.Histories.{Event, history, Taken, accepted, taken_by, or_else, last_write, due, count, read, read_due, write, lock_due, Moved, Made, Obeyed, Performed}
+use Rattle.rows.specs.RowCalls.{read_check, lock_check, Reads}
+use Rattle.rows.specs.Rows.{Rows, Lawful, showing}
 use Rattle.row_lists.specs.declared.calls.RowAnswer.{RowAnswer}
 use Rattle.row_lists.specs.declared.calls.RowCall.{RowCall}
 use Rattle.row_lists.specs.declared.calls.RowCall.TheVariants.{CountRows, Read, Write, AskLock}

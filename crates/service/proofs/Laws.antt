@@ -1,8 +1,8 @@
 -- The law of a list of calls, one call more. Assumes nothing.
-use Rattle.std.proofs.Common.{◌≡◌, ℕ, ◌+◌, ◌-◌, ◌<◌, ◌≤◌, Bool, true, false, cond, ◌&&◌, ◌||◌, eqb, ltb, leb, ◌⊎◌, List, [], ◌∷◌, ◌++◌, length, get_or, take, Some, None, Ok, Err, vec_items, Option, Result, unwrap_or, sym, refl, ap, ◌∙◌, subst, inl, inr, ⊎_elim, arith}
+use Rattle.std.proofs.Common.{◌≡◌, ℕ, ◌+◌, ◌-◌, ◌<◌, ◌≤◌, Bool, true, false, cond, ◌&&◌, ◌||◌, eqb, ltb, leb, List, [], ◌∷◌, ◌++◌, length, Some, None, Ok, Err, vec_items, Option, Result, unwrap_or, sym, refl, ap, ◌∙◌, subst, ⊎_elim, arith}
 use Rattle.std.proofs.lemmas.List.{length_push, take_at, take-append-le, get_or_append_left, get_or_at}
 use Rattle.std.proofs.lemmas.Bool.{cases_eq, cases_lt, eq-eqb, ne_eqb}
-use Rattle.row_lists.specs.Histories.{Taken, taken_by, or_else, told, due, count, read_due, write, lock_due, Moved}
+use Rattle.row_lists.specs.Histories.{Taken, taken_by, or_else, due, count, read_due, write, lock_due, Moved}
 use Rattle.rows.specs.RowCalls.{lock_check}
 use Rattle.rows.specs.Rows.{Row, Rows, Kept}
 use Rattle.row_lists.specs.declared.calls.RowAnswer.{RowAnswer}
@@ -12,7 +12,7 @@ use Rattle.row_lists.specs.declared.calls.RowCall.TheVariants as RowCalls
 use Rattle.rows.specs.declared.refusal.RowRefusal.{RowRefusal}
 use Rattle.bus.specs.Meaning.{State, Chip, Phase, rest}
 use Rattle.bus.specs.Outcomes.{is_locked}
-use Rattle.driver.specs.Calls.{Leaves, when_accepted, part_check}
+use Rattle.driver.specs.Calls.{Leaves, when_accepted}
 use Rattle.driver.specs.DriverRows.{sector_row, sector_rows, driver_rows}
 use Rattle.service.specs.Histories.{Event, history, Run, took_by, took, last_write, in_block, locks_by, locked_by, row_after, rows_after}
 use Rattle.service.specs.Law.{Right, Served}

@@ -1,5 +1,5 @@
 -- Histories of calls on a driver, with their replies, and what they tell. Assumes nothing.
-use Rattle.std.specs.Prelude.{◌≡◌, ℕ, Bool, true, false, ◌&&◌, ◌||◌, List, [], ◌∷◌, Some, None, Ok, Err, Option, Result}
+use Rattle.std.specs.Prelude.{◌≡◌, ℕ, Bool, true, false, ◌&&◌, ◌||◌, List, [], ◌∷◌, None, Ok, Err, Option, Result}
 use Rattle.std.specs.Option.{unwrap_or}
 use Rattle.row_lists.specs.Histories.{Taken, accepted, taken_by, or_else}
 use Rattle.rows.specs.Rows.{Row, Rows}

@@ -1,5 +1,5 @@
 -- Calls of other software on the bus. Assumes nothing.
-use Rattle.std.specs.Prelude.{ℕ, Bool, true, not, ◌&&◌, List, [], ◌∷◌}
+use Rattle.std.specs.Prelude.{Bool, true, not, ◌&&◌, List, [], ◌∷◌}
 use Rattle.bus.specs.Codes.{at, matches}
 use Rattle.bus.specs.declared.call.Call as Bus
 use Rattle.bus.specs.declared.call.Call.TheVariants as Calls

@@ -1,15 +1,15 @@
 -- One poll more on the way to rest. Assumes nothing.
-use Rattle.std.proofs.Common.{◌≡◌, ℕ, ◌+◌, ◌-◌, ◌*◌, ◌/◌, ◌%◌, ◌^◌, ◌<◌, ◌≤◌, min, Bool, true, false, not, eqb, leb, ◌⊎◌, List, [], ◌∷◌, length, get_or, Ok, Err, MatchBool, Result, sym, refl, ap, ◌∙◌, subst, inl, inr, arith}
+use Rattle.std.proofs.Common.{◌≡◌, ℕ, ◌+◌, ◌-◌, ◌*◌, ◌/◌, ◌%◌, ◌<◌, ◌≤◌, Bool, true, false, not, eqb, leb, ◌⊎◌, List, [], ◌∷◌, length, get_or, Ok, Err, MatchBool, Result, sym, refl, ap, ◌∙◌, subst, inl, inr, arith}
 use Rattle.std.proofs.lemmas.Bool.{eqb-true, eqb-false, cases_lt, lt-ltb, le-ltb, lt-leb, cond-false}
 use Rattle.bus.specs.declared.refusal.BusRefusal.{BusRefusal}
 use Rattle.bus.specs.declared.refusal.BusRefusal.TheVariants.{Outside}
 use Rattle.bus.specs.Choices.{Choice}
 use Rattle.bus.specs.Lawful.{Lawful, Timely}
-use Rattle.bus.specs.Meaning.{State, Chip, Phase, rest, opened, cycle, with_phase}
+use Rattle.bus.specs.Meaning.{Chip, Phase, rest, opened, cycle, with_phase}
 use Rattle.bus.specs.Status.{after_read, read_byte, bit, counted}
 use Rattle.bus.specs.Steps.{Reads, ReadsInside, Waits}
 use Rattle.bus.specs.Time.{passed, passed_phase, running}
-use Rattle.settling.specs.Settling.{reads_after, Same, toggle_bit, Polls, Sees, Toggling, Agreed, Polling, Waited}
+use Rattle.settling.specs.Settling.{reads_after, Same, toggle_bit, Polls, Sees, Toggling, Polling, Waited}
 use Rattle.settling.specs.Steps.{Stage, Closed, Agreement}
 
 -- the toggle bit that its latest poll gave

@@ -1,7 +1,7 @@
 -- The columns that a line names.
-use Rattle.std.proofs.Common.{◌≡◌, ℕ, ◌+◌, ◌<◌, ◌≤◌, Bool, true, false, cond, ◌&&◌, eqb, List, [], ◌∷◌, Some, None, Option, sym, refl, ap, ◌∙◌, subst, inl, inr, arith}
-use Rattle.std.proofs.lemmas.Bool.{eqb-true, cases_Bool, and_parts, and_from, false≢true, eq-eqb, cond-true, cond-false}
-use Rattle.trace.specs.Naming.{name_of, same_text, column_named, same_column, column_order, times, only_once}
+use Rattle.std.proofs.Common.{◌≡◌, ℕ, ◌<◌, Bool, true, false, cond, eqb, List, [], ◌∷◌, Some, None, Option, sym, refl, ap, ◌∙◌, inl, inr, arith}
+use Rattle.std.proofs.lemmas.Bool.{eqb-true, cases_Bool, and_parts, and_from, false≢true, eq-eqb, cond-false}
+use Rattle.trace.specs.Naming.{name_of, same_text, column_named, same_column, times, only_once}
 use Rattle.trace.specs.declared.column.Column.{Column}
 use Rattle.trace.specs.declared.column.Column.TheVariants.{Op, Gap, Addr, Data}
 

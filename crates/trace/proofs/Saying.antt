@@ -1,11 +1,11 @@
 -- What the definitions answer of a line is what the line says.
-use Rattle.std.proofs.Common.{◌≡◌, ℕ, ◌+◌, ◌<◌, ◌≤◌, Bool, true, false, cond, ◌&&◌, ◌⊎◌, List, [], ◌∷◌, is_some, Some, None, Ok, Err, Option, Result, sym, refl, ap, ◌∙◌, subst, inl, inr, arith}
-use Rattle.std.proofs.lemmas.Bool.{cases_Bool, cond-true, cond-false, and_from, and_cases, both_ways, true≢false}
+use Rattle.std.proofs.Common.{◌≡◌, ℕ, Bool, true, false, cond, ◌&&◌, List, [], ◌∷◌, is_some, Some, None, Ok, Option, Result, sym, refl, ap, ◌∙◌, subst, inl, inr, arith}
+use Rattle.std.proofs.lemmas.Bool.{cases_Bool, cond-true, cond-false, and_from, both_ways, true≢false}
 use Rattle.trace.specs.Naming.{name_of, column_named, column_order, only_once, EachOnce}
 use Rattle.fields.specs.Splitting.{is_text, parts, are_four, joined, IsField, FourFields}
 use Rattle.fields.specs.Forms.{op_in, gap_in, address_in, data_in, is_dash}
-use Rattle.trace.specs.Lines.{Texts, by_column, load, read, load_of, read_of, wait_of, cycle_of, cycle_in, addr_formed, data_formed, formed, named, or_refuse, line_fault, unless_fault, judged, value_line, ordered, order_of, order_named, names_line}
-use Rattle.trace.specs.Laws.{Splits, Unsplit, NamesAre, SaysOrder, Tells, Leftmost, SaysCycle}
+use Rattle.trace.specs.Lines.{Texts, by_column, load, read, cycle_of, cycle_in, addr_formed, data_formed, formed, named, or_refuse, line_fault, unless_fault, judged, value_line, order_of, order_named, names_line}
+use Rattle.trace.specs.Laws.{Unsplit, NamesAre, SaysOrder, Tells, Leftmost, SaysCycle}
 use Rattle.trace.specs.declared.column.Column.{Column}
 use Rattle.trace.specs.declared.column.Column.TheVariants.{Op, Gap, Addr, Data}
 use Rattle.trace.specs.declared.column.Columns.{Columns}

@@ -1,5 +1,5 @@
 -- What a line says, in words of its fields.
-use Rattle.std.specs.Prelude.{◌≡◌, ℕ, ◌<◌, Bool, true, false, ◌⊎◌, List, [], ◌∷◌, length, take, Some, Ok, Err, Result}
+use Rattle.std.specs.Prelude.{◌≡◌, ℕ, Bool, true, false, ◌⊎◌, List, [], ◌∷◌, Some, Ok, Err, Result}
 use Rattle.trace.specs.Naming.{name_of, column_order, EachOnce}
 use Rattle.fields.specs.Splitting.{is_text, joined, FourFields}
 use Rattle.fields.specs.Forms.{op_in, gap_in, address_in, data_in, is_dash}

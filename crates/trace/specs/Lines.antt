@@ -1,5 +1,5 @@
 -- What a line says: the columns' order, or a cycle, or a refusal.
-use Rattle.std.specs.Prelude.{◌≡◌, ℕ, Bool, true, false, cond, ◌&&◌, List, [], ◌∷◌, is_some, Some, None, Ok, Err, Option, Result}
+use Rattle.std.specs.Prelude.{◌≡◌, ℕ, Bool, true, cond, ◌&&◌, List, [], ◌∷◌, is_some, Some, None, Ok, Err, Option, Result}
 use Rattle.std.specs.Borrow.{Bor}
 use Rattle.trace.specs.Naming.{column_named, column_order, only_once}
 use Rattle.fields.specs.Splitting.{is_text, parts, are_four}

@@ -1,5 +1,5 @@
 -- A written line reads as its cycle.
-use Rattle.std.proofs.Common.{◌≡◌, ℕ, zero, suc, ◌+◌, ◌*◌, ◌/◌, ◌%◌, ◌^◌, ◌<◌, ◌≤◌, Bool, true, false, cond, ◌&&◌, ltb, leb, List, [], ◌∷◌, ◌++◌, length, Some, None, Ok, Err, decimal, Option, sym, refl, ap, ◌∙◌, subst, append_assoc, append-nil, pow-suc, arith, length-append}
+use Rattle.std.proofs.Common.{◌≡◌, ℕ, zero, suc, ◌+◌, ◌*◌, ◌/◌, ◌%◌, ◌^◌, ◌<◌, ◌≤◌, true, false, List, [], ◌∷◌, ◌++◌, length, Some, None, Ok, decimal, Option, sym, refl, ap, ◌∙◌, append_assoc, append-nil, pow-suc, arith, length-append}
 use Rattle.std.specs.Char.{digit_value}
 use Rattle.std.specs.Str.Parse.{AllDigits, digits_value_after}
 use Rattle.std.proofs.lemmas.Bool.{lt-ltb, le-leb, and_from, cond-true, ltb-false}
@@ -8,10 +8,10 @@ use Rattle.std.proofs.lemmas.Str.Parse.{digit_from_value}
 use Rattle.std.proofs.lemmas.Fmt.{decimal_is_IsNumeral, length-decimal-le}
 use Rattle.trace.specs.Naming.{standard_order}
 use Rattle.fields.specs.Splitting.{printable, is_text, joined}
-use Rattle.fields.specs.Forms.{digit_in, number_after, number_in, gap_in, address_in, data_in}
+use Rattle.fields.specs.Forms.{digit_in, number_after, gap_in, address_in, data_in}
 use Rattle.trace.specs.Lines.{value_line}
-use Rattle.writer.specs.Writing.{hex_char, hex_text, letter_of, gap_of, data_of, addr_text, data_text, text_of, too_high}
-use Rattle.fields.specs.Splitting.{NoSpace, IsField, FourFields}
+use Rattle.writer.specs.Writing.{hex_char, hex_text, gap_of, data_of, text_of, too_high}
+use Rattle.fields.specs.Splitting.{NoSpace}
 use Rattle.trace.specs.declared.cycle.Cycle.{Cycle}
 use Rattle.trace.specs.declared.cycle.Cycle.TheVariants.{Load, Read, Wait}
 use Rattle.trace.proofs.Saying.{reads_as}

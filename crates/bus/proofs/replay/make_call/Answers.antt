@@ -1,4 +1,4 @@
-use Rattle.std.proofs.Common.{◌≡◌, sym, subst}
+use Rattle.std.proofs.Common.{sym, subst}
 use Rattle.std.specs.Result.{result_err}
 use Rattle.bus.specs.declared.call.Call.{Call}
 use Rattle.bus.specs.declared.call.Call.TheVariants as Calls

@@ -1,6 +1,6 @@
-use Rattle.std.proofs.Common.{◌≡◌, length, vec_items, vec_len, sym, refl, ap, ◌∙◌, arith}
+use Rattle.std.proofs.Common.{◌≡◌, length, vec_items, sym, refl, ◌∙◌, arith}
 use Rattle.std.proofs.lemmas.List.{take_all}
-use Rattle.bus.specs.History.{Run, Kept, history}
+use Rattle.bus.specs.History.{Run, history}
 use Rattle.bus.proofs.Bytes.{law_holds}
 use Rattle.bus.proofs.Histories.{run_more, kept_more}
 use Rattle.bus.proofs.replay.replay.Goals as goal

@@ -1,4 +1,4 @@
-use Rattle.std.proofs.Common.{◌≡◌, ◌∙◌, arith, rules}
+use Rattle.std.proofs.Common.{◌∙◌, arith}
 use Rattle.fields.proofs.Cuts.{cut_more, cut_here, cut_none, before_none}
 use Rattle.fields.proofs.line.field_len.Goals as goal
 

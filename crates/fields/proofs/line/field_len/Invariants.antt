@@ -1,4 +1,4 @@
-use Rattle.std.proofs.Common.{◌≡◌, ℕ, List, ◌++◌, take, drop}
+use Rattle.std.proofs.Common.{◌≡◌, take, drop}
 use Rattle.fields.specs.Splitting.{parts}
 use Rattle.fields.proofs.Cuts.{before}
 use Rattle.fields.proofs.line.field_len.Given as goal

@@ -1,4 +1,4 @@
-use Rattle.std.proofs.Common.{sym, ◌∙◌, drop_of_length-le, rules}
+use Rattle.std.proofs.Common.{sym, ◌∙◌, drop_of_length-le}
 use Rattle.fields.proofs.Cuts.{print_more, print_low, print_high}
 use Rattle.fields.proofs.line.is_printable.Goals as goal
 use Rattle.fields.proofs.line.is_printable.Goals.{then-byte-lt32-via-then-byte-lt32, then-byte-lt32-via-else-byte-lt32+then-byte-gt126}

@@ -1,5 +1,5 @@
-use Rattle.std.proofs.Common.{◌≡◌, false, ◌∷◌, sym, ap, ◌∙◌}
-use Rattle.fields.specs.Splitting.{parts, are_four}
+use Rattle.std.proofs.Common.{sym}
+use Rattle.fields.specs.Splitting.{parts}
 use Rattle.fields.proofs.Cuts.{last_3}
 use Rattle.fields.proofs.line.split.Goals as goal
 

@@ -1,4 +1,4 @@
-use Rattle.std.proofs.Common.{◌≡◌, ◌*◌, ◌^◌, ◌<◌, ◌≤◌, length, get_or, sym, ap, ◌∙◌, subst, arith, drop_of_length-le}
+use Rattle.std.proofs.Common.{length, get_or, sym, ◌∙◌, arith, drop_of_length-le}
 use Rattle.fields.proofs.Numbers.{digit_below, digit_more, no_digit, grows, power_below, product_room}
 use Rattle.fields.proofs.numerals.number.Goals as goal
 

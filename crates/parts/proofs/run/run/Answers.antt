@@ -1,5 +1,5 @@
 use Rattle.std.proofs.Common.{vec_items}
-use Rattle.parts.proofs.Exactly.{exact_made, made_map, Told}
+use Rattle.parts.proofs.Exactly.{exact_made, made_map}
 use Rattle.parts.proofs.run.run.Goals as goal
 
 pub returns : goal.returns

@@ -1,8 +1,7 @@
-use Rattle.std.proofs.Common.{◌≡◌, ◌+◌, true, List, [], ◌∷◌, ◌++◌, length, vec_items, sym, refl, ap, ◌∙◌, subst, append_assoc, append-nil, arith, length-append}
+use Rattle.std.proofs.Common.{◌≡◌, ◌+◌, List, [], ◌∷◌, ◌++◌, length, vec_items, sym, refl, ap, ◌∙◌, append_assoc, append-nil, arith, length-append}
 use Rattle.std.proofs.lemmas.List.{length_push}
 use Rattle.std.specs.Vec.Iter.{into_iter_items}
 use Rattle.service.specs.Others.{all_harmless}
-use Rattle.service.specs.declared.calls.ServiceCall.{ServiceCall}
 use Rattle.service.proofs.Guarding.{harmless_in}
 use Rattle.service.proofs.Laws.{stands_none, stands_more, run_more}
 use Rattle.service.proofs.serve.serve.Goals as goal

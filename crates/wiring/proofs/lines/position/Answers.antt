@@ -1,4 +1,4 @@
-use Rattle.std.proofs.Common.{◌≡◌, sym, arith}
+use Rattle.std.proofs.Common.{arith}
 use Rattle.std.proofs.lemmas.List.{at_drop_all}
 use Rattle.wiring.specs.Lines.{position}
 use Rattle.wiring.proofs.LineLaws.{position_here, position_other}

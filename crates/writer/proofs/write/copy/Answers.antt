@@ -1,4 +1,3 @@
-use Rattle.std.proofs.Common.{◌≡◌, ◌-◌, length, sym, refl, ap, ◌∙◌, arith}
 use Rattle.writer.proofs.Drafts.{fronts}
 use Rattle.writer.proofs.write.copy.Goals as goal
 

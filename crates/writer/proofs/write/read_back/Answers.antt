@@ -1,4 +1,4 @@
-use Rattle.std.proofs.Common.{◌≡◌, Ok, Err, Result, sym, ap, ◌∙◌}
+use Rattle.std.proofs.Common.{◌≡◌, Ok, Result, sym, ap, ◌∙◌}
 use Rattle.trace.specs.Naming.{standard_order}
 use Rattle.trace.specs.Lines.{value_line}
 use Rattle.trace.specs.declared.column.Columns.{Columns}

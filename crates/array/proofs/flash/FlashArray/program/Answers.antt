@@ -1,4 +1,4 @@
-use Rattle.std.proofs.Common.{◌≡◌, ℕ, ◌+◌, ◌*◌, ◌<◌, ◌≤◌, length, get_or, set, Some, None, unwrap_or, sym, refl, ap, ◌∙◌, ap₂, arith, length-set}
+use Rattle.std.proofs.Common.{◌≡◌, ◌+◌, ◌*◌, ◌≤◌, length, get_or, set, None, unwrap_or, sym, refl, ap, ◌∙◌, ap₂, arith, length-set}
 use lib.Seq.{paste, paste-zero}
 use Rattle.bus.specs.Outcomes.{programmed}
 use Rattle.array.specs.Filling.{fill_sector}

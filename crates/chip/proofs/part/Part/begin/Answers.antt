@@ -1,4 +1,4 @@
-use Rattle.std.proofs.Common.{◌≡◌, sym, refl, ap, ◌∙◌}
+use Rattle.std.proofs.Common.{ap, ◌∙◌}
 use Rattle.chip.specs.Meaning.{count_of, joined_to}
 use Rattle.chip.proofs.part.Part.begin.Goals as goal
 

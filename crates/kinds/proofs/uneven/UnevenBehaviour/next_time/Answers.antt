@@ -1,4 +1,4 @@
-use Rattle.std.proofs.Common.{◌≡◌, sym, refl, ap, ◌∙◌, arith}
+use Rattle.std.proofs.Common.{◌∙◌, arith}
 use Rattle.kinds.proofs.Turns.{turn_now, turn_next}
 use Rattle.kinds.proofs.uneven.UnevenBehaviour.next_time.Goals as goal
 

@@ -1,5 +1,4 @@
 use Rattle.std.proofs.Common.{arith}
-use Rattle.memory.specs.Memory.{RowSet}
 use Rattle.memory.proofs.MemoryLaws.{row_set, row_stored}
 use Rattle.memory.proofs.store.calls.store_row.Goals as goal
 

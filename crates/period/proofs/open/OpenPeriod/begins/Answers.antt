@@ -1,4 +1,4 @@
-use Rattle.std.proofs.Common.{◌≡◌, ◌<◌, length, sym, refl, ap, ◌∙◌, arith, rules}
+use Rattle.std.proofs.Common.{◌<◌, length, sym, ◌∙◌, arith}
 use Rattle.period.specs.Meaning.{head_of}
 use Rattle.period.proofs.Begins.{begins_short, begins_other_address, begins_other_byte, begins_next, begins_all}
 use Rattle.period.proofs.open.OpenPeriod.begins.Goals as goal

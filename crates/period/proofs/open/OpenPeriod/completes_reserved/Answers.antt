@@ -1,4 +1,4 @@
-use Rattle.std.proofs.Common.{◌≡◌, ◌%◌, Bool, true, false, ◌||◌, List, sym, refl, ap, ◌∙◌}
+use Rattle.std.proofs.Common.{◌≡◌, ◌%◌, Bool, true, false, ◌||◌, List, refl, ap, ◌∙◌}
 use Rattle.bus.specs.declared.load.Load.{Load}
 use Rattle.bus.specs.Codes.{exactly, unlock, completes_reserved}
 use Rattle.period.specs.Meaning.{head_of}

@@ -1,4 +1,4 @@
-use Rattle.std.proofs.Common.{◌≡◌, sym, ◌∙◌, arith}
+use Rattle.std.proofs.Common.{sym, ◌∙◌, arith}
 use Rattle.period.specs.Meaning.{head_of, data_of}
 use Rattle.period.proofs.Long.{long_load}
 use Rattle.period.proofs.open.OpenPeriod.extend.Goals as goal

@@ -1,5 +1,5 @@
-use Rattle.std.proofs.Common.{◌≡◌, refl}
-use Rattle.trace.specs.Lines.{row_texts, no_texts, under}
+use Rattle.std.proofs.Common.{refl}
+use Rattle.trace.specs.Lines.{row_texts, no_texts}
 use Rattle.trace.proofs.Placing.{put_next}
 use Rattle.trace.proofs.row.Row.new.Goals as goal
 

@@ -1,5 +1,5 @@
-use Rattle.std.proofs.Common.{◌≡◌, map, sym, ap, ◌∙◌, subst, arith}
-use Rattle.wiring.specs.Lines.{EachOnce, crossed, reversed}
+use Rattle.std.proofs.Common.{map, sym, ap, ◌∙◌, subst, arith}
+use Rattle.wiring.specs.Lines.{EachOnce, crossed}
 use Rattle.wiring.proofs.LineLaws.{back_all, position_fits, reversed_once, map_back}
 use Rattle.wiring.proofs.wiring.Wiring.reversed.Goals as goal
 

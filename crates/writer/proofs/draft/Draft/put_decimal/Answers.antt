@@ -1,4 +1,4 @@
-use Rattle.std.proofs.Common.{◌≡◌, ℕ, ◌+◌, ◌%◌, ◌++◌, decimal, refl, arith}
+use Rattle.std.proofs.Common.{◌+◌, ◌%◌, ◌++◌, decimal, refl, arith}
 use Rattle.writer.specs.Writing.{draft_text}
 use Rattle.writer.proofs.Drafts.{decimal_more, decimal_last, length-digit, length_more}
 use Rattle.writer.proofs.draft.Draft.put_decimal.Goals as goal

@@ -1,4 +1,4 @@
-use Rattle.std.proofs.Common.{◌≡◌, ℕ, ◌+◌, ◌-◌, ◌++◌, ap, arith}
+use Rattle.std.proofs.Common.{◌+◌, ◌-◌, ◌++◌, arith}
 use native.Mathlib.Nat.{sub-zero}
 use Rattle.writer.specs.Writing.{hex_text, draft_text}
 use Rattle.writer.proofs.Drafts.{hex_more, hex_all}

@@ -1,4 +1,4 @@
-use Rattle.std.proofs.Common.{◌≡◌, refl}
+use Rattle.std.proofs.Common.{refl}
 use Rattle.crossing.proofs.CrossingLaws.{crossing_writes}
 use Rattle.crossing.proofs.crossing.calls.CrossingStore.write.Goals as goal
 
