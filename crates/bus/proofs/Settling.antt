@@ -9,7 +9,7 @@ use Rattle.bus.specs.declared.kind.Kind.{Kind}
 use Rattle.bus.proofs.Summaries.{data_by, summary, kind_is, data_is}
 use Rattle.bus.proofs.Expected.{expected, Meets}
 use Rattle.bus.proofs.Reach.{extend_reach}
-use Rattle.std.specs.List.{AllByRecursion as All}
+use Rattle.std.specs.List.{AllByRecursion}
 use Rattle.bus.proofs.Pages.{get_or-programmed}
 use Rattle.bus.specs.Meaning.{State, DataLoads, none, one, several}
 use Rattle.bus.specs.Periods.{blank, add_data}
@@ -182,7 +182,7 @@ Good n f a first s ps =
     (length s.bytes ≡ 128 * n) × (flags_of s ≡ flags_after n f ps) × Meets (expected n f ps a first) (get_or s.bytes a 0)
 
 abbrev pub Inside : ℕ → List Load → Type 0
-Inside n ls = All (λ (l : Load). l.address < 128 * n) ls
+Inside n ls = AllByRecursion (λ (l : Load). l.address < 128 * n) ls
 
 summary_reach : (n : ℕ) (ls : List Load) → Inside n ls → reach (summary n ls).loaded ≤ n
 summary_reach n [] h = omega arith

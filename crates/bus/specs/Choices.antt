@@ -1,6 +1,5 @@
 -- What the rules leave to the part. Assumes nothing.
-use Rattle.std.specs.Prelude.{◌≡◌, ℕ, ◌<◌, ◌≤◌, List, length}
-use Rattle.std.specs.List.{AllByRecursion as All}
+use Rattle.std.specs.Prelude.{◌≡◌, ℕ, ◌<◌, ◌≤◌, List, length, All}
 
 -- the time of the cycle that begins next, what goes into the unloaded bytes of a written sector, and the free bits of a status:
 -- bit 7 at other addresses than the last loaded, and bits 5 to 0

@@ -1,8 +1,8 @@
 -- What a part chooses, and that its calls are then those of a socket. Assumes nothing.
 use Rattle.std.proofs.Common.{◌≡◌, ℕ, ◌+◌, ◌-◌, ◌*◌, ◌/◌, ◌<◌, Bool, true, false, cond, eqb, List, length, get_or, Some, None, Ok, Option, sym, refl, ap, ◌∙◌, subst, arith}
-use Rattle.std.specs.List.{AllByRecursion as All}
+use Rattle.std.specs.Prelude.{All}
 use Rattle.std.proofs.lemmas.Bool.{lt-ltb}
-use Rattle.std.proofs.ByRecursion.{All-from_get_or}
+use Rattle.std.proofs.lemmas.List.Elements.{All-from_get_or}
 use Rattle.bus.specs.declared.refusal.BusRefusal.{BusRefusal}
 use Rattle.bus.specs.declared.load.Load.{Load}
 use Rattle.bus.specs.declared.call.Call.TheVariants as Calls
