@@ -1,35 +1,36 @@
-// A book: records of one kind, in memory that the caller lends.
+// A book: records of one kind, in memory that the caller lends, and so a slice and a count, without a heap.
 #![tactic(auto)]
 
-ghost use Rattle.std.specs.Prelude.{◌≡◌, ◌+◌, ◌<◌, ◌≤◌, [], ◌∷◌, ◌++◌, length, take, ◌==◌, nat_le};
-ghost use Rattle.book.specs.Records.{records, capacity, number_of, Added, Found};
+ghost use Rattle.std.specs.Prelude.{◌≡◌, ◌≤◌, [], length, ◌==◌, nat_le};
+
+// Why a record is not added, by the number under which it is reported.
+#[derive(Clone, Copy, PartialEq, Eq, Debug)]
+pub enum BookRefusal {
+    // No place is free.
+    Full = 10,
+}
+
+impl BookRefusal {
+    ghost use Rattle.book.specs.Records.{number_of};
+
+    pub fn number(self) -> u8
+        ensures { result ≡ number_of self }
+    {
+        self as u8
+    }
+}
 
 // The records stand in the first places, in the order added.
 #[derive(Drop)]
 pub struct Book<'a, T> {
     places: &'a mut [T],
     used: usize,
-}
-
-// Why a record is not added.
-#[derive(Clone, Copy, PartialEq, Eq, Debug)]
-pub enum BookRefusal {
-    // No place is free.
-    Full,
-}
-
-impl BookRefusal {
-    // The number under which a refusal is reported.
-    pub fn number(self) -> u8
-        ensures { result ≡ number_of self }
-    {
-        match self {
-            BookRefusal::Full => 10,
-        }
-    }
+    ghost within: { used ≤ length places.now },
 }
 
 impl<'a, T: Drop> Book<'a, T> {
+    ghost use Rattle.book.specs.Records.{records, capacity, Added, Found};
+
     // An empty book over these places: what they hold is no record yet.
     pub fn new(places: &'a mut [T]) -> Book<'a, T>
         ensures empty { records result ≡ [] }
@@ -42,12 +43,11 @@ impl<'a, T: Drop> Book<'a, T> {
     pub fn add(&mut self, record: T) -> Result<(), BookRefusal>
         ensures { Added self.old «record» result self.new }
     {
-        let next = self.next();
-        if next >= self.places.len() {
+        if self.is_full() {
             return Err(BookRefusal::Full);
         }
-        put(self.places, next, record);
-        self.used = next + 1;
+        self.places[self.used] = record;
+        self.used += 1;
         Ok(())
     }
 
@@ -68,62 +68,28 @@ impl<'a, T: Drop> Book<'a, T> {
     pub fn is_empty(&self) -> bool
         ensures { result ≡ (length (records self.now) == 0) }
     {
-        self.len() == 0
+        self.used == 0
     }
 
     pub fn is_full(&self) -> bool
         ensures { result ≡ nat_le (capacity self.now) (length (records self.now)) }
     {
-        self.len() >= self.places.len()
+        self.used == self.places.len()
     }
 
     // All records, in the order added.
     pub fn as_slice(&self) -> &[T]
         ensures { result.now ≡ records self.now }
     {
-        let end = self.next();
-        let places = &*self.places;
-        &places[0..end]
+        &self.places[..self.used]
     }
 
     // The record that was added after `index` others.
     pub fn get(&self, index: usize) -> Option<&T>
         ensures { Found (records self.now) index result }
     {
-        let records = self.as_slice();
-        if index < records.len() {
-            Some(&records[index])
-        } else {
-            None
-        }
+        self.as_slice().get(index)
     }
-
-    // Where the next record goes.
-    fn next(&self) -> usize
-        ensures count { result ≡ length (records self.now) }
-        ensures within { result ≤ capacity self.now }
-        ensures front { take result self.now.places.now ≡ records self.now }
-    {
-        filled(self.places, self.used)
-    }
-}
-
-// How many places are filled where `used` are counted.
-fn filled<T>(places: &[T], used: usize) -> usize
-    ensures count { result ≡ length (take used places.now) }
-    ensures within { result ≤ length places.now }
-    ensures same { take result places.now ≡ take used places.now }
-{
-    used.min(places.len())
-}
-
-// Fills the place after the first `at`.
-fn put<T: Drop>(places: &mut [T], at: usize, record: T)
-    requires { at < length places.old }
-    ensures front { take (at + 1) places.new ≡ take at places.old ++ («record» ∷ []) }
-    ensures len { length places.new ≡ length places.old }
-{
-    places[at] = record;
 }
 
 #[cfg(test)]

@@ -1,38 +1,22 @@
-ghost use Rattle.std.specs.Prelude.{◌≡◌, ◌^◌, ◌<◌, ◌≤◌, length, IfSome};
-ghost use Rattle.fields.specs.Forms.{digit_in, number_after};
+ghost use Rattle.std.specs.Prelude.{◌≡◌, ◌^◌, ◌<◌, ◌≤◌, IfSome};
+ghost use Rattle.fields.specs.Forms.{number_in};
 
-fn hex_digit(byte: u8) -> Option<u8>
-    ensures { result ≡ digit_in 16 byte }
+// The number that `text` writes in this base, in no fewer and no more digits: five are room enough for any column.
+pub(crate) fn number(base: u32, fewest: usize, most: usize, text: &[u8]) -> Option<u32>
+    requires base { 2 ≤ base }
+    requires base_top { base ≤ 16 }
+    requires digits { most ≤ 5 }
+    ensures value { result ≡ number_in base fewest most text.now }
+    ensures bound { IfSome result (λ n. n < 16 ^ most) }
 {
-    match char::from(byte) {
-        '0'..='9' => Some(byte - b'0'),
-        'A'..='F' => Some(byte - b'A' + 10),
-        'a'..='f' => Some(byte - b'a' + 10),
-        _ => None,
+    if text.len() < fewest || text.len() > most {
+        return None;
     }
-}
-
-fn digit(base: u64, byte: u8) -> Option<u64>
-    requires { base ≤ 16 }
-    ensures { result ≡ digit_in base byte }
-{
-    match hex_digit(byte) {
-        Some(value) if u64::from(value) < base => Some(u64::from(value)),
-        _ => None,
-    }
-}
-
-// The number that the digits of `text` write: ten digits are room enough for any column.
-pub(crate) fn number(base: u64, text: &[u8]) -> Option<u64>
-    requires base { base ≤ 16 }
-    requires digits { length text.now ≤ 10 }
-    ensures value { result ≡ number_after base 0 text.now }
-    ensures bound { IfSome result (λ n. n < 16 ^ length text.now) }
-{
-    let mut n = 0u64;
+    let mut number = 0u32;
+    // A loop and no chain (tried): what bounds each step is what came before, which the closure would not know.
     for byte in text {
-        let value = digit(base, *byte)?;
-        n = n * base + value;
+        let digit = char::from(*byte).to_digit(base)?;
+        number = number * base + digit;
     }
-    Some(n)
+    Some(number)
 }

@@ -4,7 +4,7 @@ ghost use Rattle.fields.specs.Forms.{op_in, gap_in, address_in, data_in, is_dash
 use super::numerals::number;
 
 // What a cycle does.
-#[derive(Clone, Copy)]
+#[derive(Clone, Copy, PartialEq, Eq, Debug)]
 pub enum Op {
     Load,
     Read,
@@ -17,9 +17,6 @@ pub const GAP_DIGITS: usize = 5;
 pub const ADDRESS_DIGITS: usize = 5;
 
 pub const DATA_DIGITS: usize = 2;
-
-// The longest gap, in microseconds.
-const GAP_TOP: u64 = 65535;
 
 // The op that one letter stands for.
 pub fn read_op(text: &[u8]) -> Option<Op>
@@ -40,43 +37,26 @@ pub fn read_op(text: &[u8]) -> Option<Op>
 pub fn read_gap(text: &[u8]) -> Option<u16>
     ensures { result ≡ gap_in text.now }
 {
-    if text.len() < 1 || text.len() > GAP_DIGITS {
-        return None;
-    }
-    match number(10, text) {
-        Some(gap) if gap <= GAP_TOP => Some(gap as u16),
-        _ => None,
-    }
+    u16::try_from(number(10, 1, GAP_DIGITS, text)?).ok()
 }
 
 // An address in hexadecimal digits.
 pub fn read_address(text: &[u8]) -> Option<u32>
     ensures { result ≡ address_in text.now }
 {
-    if text.len() < 1 || text.len() > ADDRESS_DIGITS {
-        return None;
-    }
-    let address = number(16, text)?;
-    Some(address as u32)
+    number(16, 1, ADDRESS_DIGITS, text)
 }
 
 // A byte in hexadecimal digits.
 pub fn read_data(text: &[u8]) -> Option<u8>
     ensures { result ≡ data_in text.now }
 {
-    if text.len() != DATA_DIGITS {
-        return None;
-    }
-    let data = number(16, text)?;
-    Some(data as u8)
+    u8::try_from(number(16, DATA_DIGITS, DATA_DIGITS, text)?).ok()
 }
 
 // The dash of a field that has no value.
 pub fn is_dash(text: &[u8]) -> bool
     ensures { result ≡ is_dash text.now }
 {
-    match text {
-        [byte] => char::from(*byte) == '-',
-        _ => false,
-    }
+    matches!(text, b"-")
 }

@@ -1,7 +1,12 @@
 -- The columns that a line names.
-use Rattle.std.proofs.Common.{◌≡◌, ℕ, ◌<◌, Bool, true, false, cond, eqb, List, [], ◌∷◌, Some, None, Option, sym, refl, ap, ◌∙◌, inl, inr, arith}
-use Rattle.std.proofs.lemmas.Bool.{eqb-true, cases_Bool, and_parts, and_from, false≢true, eq-eqb, cond-false}
-use Rattle.trace.specs.Naming.{name_of, same_text, column_named, same_column, times, only_once}
+use Rattle.std.proofs.Common.{◌≡◌, subst, ℕ, ◌+◌, ◌<◌, Bool, true, false, cond, eqb, List, [], ◌∷◌, length, filter, Some, None, Option, sym, refl, ap, ◌∙◌, inl, inr, arith}
+use Rattle.std.proofs.lemmas.Bool.{eqb-true, cases_Bool, and_parts, false≢true, cond-false}
+use Rattle.std.proofs.lemmas.Option.{none-some, same_Some}
+use Rattle.trace.specs.Names.{name_of, same_text, column_named, same_column, times, only_once}
+use Rattle.std.proofs.Math.Bool.{Bool-set}
+use Rattle.trace.specs.Naming.{column_order, EachOnce}
+use Rattle.trace.specs.Lines.{ordered_by, ordered}
+use Rattle.trace.specs.declared.column.Columns.{Columns}
 use Rattle.trace.specs.declared.column.Column.{Column}
 use Rattle.trace.specs.declared.column.Column.TheVariants.{Op, Gap, Addr, Data}
 
@@ -24,15 +29,11 @@ named_back Data = refl
 
 same_column_lem : (c k : Column) → same_column c k ≡ true → c ≡ k
 same_column_lem c k h =
-    let e : Some c ≡ Some k = sym (named_back c) ∙ ap column_named (same_text_lem (name_of c) (name_of k) h) ∙ named_back k in
-    cc
+    same_Some c k (sym (named_back c) ∙ ap column_named (same_text_lem (name_of c) (name_of k) h) ∙ named_back k)
 
 first_some : (b : Bool) (c k : Column) (r : Option Column) (P : Type 0) → (b ≡ true → c ≡ k → P) → (r ≡ Some k → P) → cond b (Some c) r ≡ Some k → P
-first_some true c k r P f g h = f refl (cc)
+first_some true c k r P f g h = f refl (same_Some c k h)
 first_some false c k r P f g h = g h
-
-no_some : (k : Column) (P : Type 0) → ◌≡◌ {A = Option Column} None (Some k) → P
-no_some k P h = absurd (let z : ◌≡◌ {A = ℕ} 0 1 = cc in omega arith)
 
 -- the text that names a column is its name
 pub named_text : (t : List ℕ) (k : Column) → column_named t ≡ Some k → t ≡ name_of k
@@ -40,10 +41,26 @@ named_text t k =
     first_some (same_text t (name_of Op)) Op k _ (t ≡ name_of k) (is Op)
     (first_some (same_text t (name_of Gap)) Gap k _ (t ≡ name_of k) (is Gap)
     (first_some (same_text t (name_of Addr)) Addr k _ (t ≡ name_of k) (is Addr)
-    (first_some (same_text t (name_of Data)) Data k None (t ≡ name_of k) (is Data) (no_some k (t ≡ name_of k)))))
+    (first_some (same_text t (name_of Data)) Data k None (t ≡ name_of k) (is Data) (λ h. absurd (none-some k h)))))
   where
     is : (c : Column) → same_text t (name_of c) ≡ true → c ≡ k → t ≡ name_of k
     is c y e = same_text_lem t (name_of c) y ∙ ap name_of e
+
+pub times_filter : (k : Column) (ks : List Column) → length (filter (λ c. same_column c k) ks) ≡ times k ks
+times_filter k [] = refl
+times_filter k (c ∷ ks) =
+    elim (cases_Bool (same_column c k)) [
+      | inl y ↦ rw y (let e = times_filter k ks in omega arith)
+      | inr n ↦ rw n (let e = times_filter k ks in omega arith)
+    ]
+
+-- the four columns stand as often as there are columns
+pub times_all : (ks : List Column) → times Op ks + times Gap ks + times Addr ks + times Data ks ≡ length ks
+times_all [] = refl
+times_all (Op ∷ ks) = let e = times_all ks in omega arith
+times_all (Gap ∷ ks) = let e = times_all ks in omega arith
+times_all (Addr ∷ ks) = let e = times_all ks in omega arith
+times_all (Data ∷ ks) = let e = times_all ks in omega arith
 
 -- each column stands once
 pub once : (cs : List Column) → only_once cs ≡ true → (k : Column) → times k cs ≡ 1
@@ -51,12 +68,6 @@ once cs h Op = eqb-true (times Op cs) 1 (and_parts (eqb (times Op cs) 1) _ h).0
 once cs h Gap = eqb-true (times Gap cs) 1 (and_parts (eqb (times Gap cs) 1) _ (and_parts (eqb (times Op cs) 1) _ h).1).0
 once cs h Addr = eqb-true (times Addr cs) 1 (and_parts (eqb (times Addr cs) 1) _ (and_parts (eqb (times Gap cs) 1) _ (and_parts (eqb (times Op cs) 1) _ h).1).1).0
 once cs h Data = eqb-true (times Data cs) 1 (and_parts (eqb (times Addr cs) 1) (eqb (times Data cs) 1) (and_parts (eqb (times Gap cs) 1) _ (and_parts (eqb (times Op cs) 1) _ h).1).1).1
-
-pub once_back : (cs : List Column) → ((k : Column) → times k cs ≡ 1) → only_once cs ≡ true
-once_back cs h =
-    and_from (eqb (times Op cs) 1) _ (eq-eqb (times Op cs) 1 (h Op))
-    (and_from (eqb (times Gap cs) 1) _ (eq-eqb (times Gap cs) 1 (h Gap))
-    (and_from (eqb (times Addr cs) 1) _ (eq-eqb (times Addr cs) 1 (h Addr)) (eq-eqb (times Data cs) 1 (h Data))))
 
 abbrev pub AllTrue : (Column → Bool) → List Column → Type 0
 AllTrue f [] = Unit {0}
@@ -70,3 +81,23 @@ holds_of f (c ∷ cs) k a h =
       | inl y ↦ ap f (sym (same_column_lem c k y)) ∙ a.0
       | inr n ↦ let e : ◌≡◌ {A = ℕ} (cond (same_column c k) 1 0) 0 = cond-false _ _ _ n in holds_of f cs k a.1 (omega (arith, e))
     ]
+
+-- two orders of the same columns are one
+pub columns_same : (cs ds : Columns) → column_order cs ≡ column_order ds → cs ≡ ds
+columns_same cs ds e =
+    subst (λ (ks : List Column). (p : only_once ks ≡ true) → cs ≡ record { order = ks; each_once = p }) e
+    (λ p. ap (λ (q : only_once (column_order cs) ≡ true). record { order = column_order cs; each_once = q }) (Bool-set _ _ cs.each_once p)) ds.each_once
+
+pub ordered_is : (cs : Columns) (t : Bool) (e : only_once (column_order cs) ≡ t) → ordered_by (column_order cs) t e ≡ Some cs
+ordered_is cs true e = ap Some (columns_same (record { order = column_order cs; each_once = e }) cs refl)
+ordered_is cs false e = absurd (false≢true (sym e ∙ cs.each_once))
+
+pub ordered_from : (ks : List Column) (t : Bool) (e : only_once ks ≡ t) (cs : Columns) → ordered_by ks t e ≡ Some cs → ks ≡ column_order cs
+ordered_from ks true e cs h = ap column_order (same_Some (record { order = ks; each_once = e }) cs h)
+ordered_from ks false e cs h = absurd (none-some cs h)
+
+pub each_once : (cs : Columns) → EachOnce cs
+each_once cs = once (column_order cs) cs.each_once
+
+pub order_made : (cs : Columns) (o : Option Columns) → ordered (column_order cs) ≡ o → Some cs ≡ o
+order_made cs o h = sym (ordered_is cs (only_once (column_order cs)) refl) ∙ h

@@ -1,7 +1,8 @@
 -- What a line says, in words of its fields.
-use Rattle.std.specs.Prelude.{◌≡◌, ℕ, Bool, true, false, ◌⊎◌, List, [], ◌∷◌, Some, Ok, Err, Result}
-use Rattle.trace.specs.Naming.{name_of, column_order, EachOnce}
-use Rattle.fields.specs.Splitting.{is_text, joined, FourFields}
+use Rattle.std.specs.Prelude.{◌≡◌, ℕ, Bool, true, false, ◌⊎◌, List, [], ◌∷◌, ◌++◌, Some, Ok, Err, Result}
+use Rattle.trace.specs.Names.{name_of}
+use Rattle.trace.specs.Naming.{column_order, EachOnce}
+use Rattle.fields.specs.Splitting.{is_text, FourFields}
 use Rattle.fields.specs.Forms.{op_in, gap_in, address_in, data_in, is_dash}
 use Rattle.trace.specs.Lines.{Texts, by_column, formed}
 use Rattle.trace.specs.declared.column.Column.{Column}
@@ -20,9 +21,15 @@ Splits s P = (is_text s ≡ true) × (a : List ℕ) × (b : List ℕ) × (c : Li
 abbrev pub Unsplit : List ℕ → Type 0
 Unsplit s = (is_text s ≡ true) × ((a b c d : List ℕ) → FourFields s a b c d → ⊥)
 
+-- the names of columns with single spaces between
+abbrev pub names_text : List Column → List ℕ
+names_text [] = []
+names_text (k ∷ []) = name_of k
+names_text (k ∷ (l ∷ ks)) = name_of k ++ (32 ∷ names_text (l ∷ ks))
+
 -- the line is the names of these columns, each column once
 abbrev pub NamesAre : List ℕ → Columns → Type 0
-NamesAre s cs = (s ≡ joined (name_of cs.first) (name_of cs.second) (name_of cs.third) (name_of cs.fourth)) × EachOnce cs
+NamesAre s cs = (s ≡ names_text (column_order cs)) × EachOnce cs
 
 -- what a line of names says: the order of its names;
 -- 11 where it is no text, 12 where it has not four fields, 13 where they are not each name once

@@ -1,3 +1,4 @@
+pub mod Names
 pub mod Naming
 pub mod Refusals
 pub mod Lines

@@ -1,7 +1,8 @@
 -- What a line says: the columns' order, or a cycle, or a refusal.
-use Rattle.std.specs.Prelude.{◌≡◌, ℕ, Bool, true, cond, ◌&&◌, List, [], ◌∷◌, is_some, Some, None, Ok, Err, Option, Result}
+use Rattle.std.specs.Prelude.{◌≡◌, ℕ, Bool, true, false, refl, cond, ◌&&◌, List, [], ◌∷◌, map, is_some, Some, None, Ok, Err, Option, Result}
 use Rattle.std.specs.Borrow.{Bor}
-use Rattle.trace.specs.Naming.{column_named, column_order, only_once}
+use Rattle.trace.specs.Names.{column_named, only_once}
+use Rattle.trace.specs.Naming.{column_order}
 use Rattle.fields.specs.Splitting.{is_text, parts, are_four}
 use Rattle.fields.specs.Forms.{op_in, gap_in, address_in, data_in, is_dash}
 use Rattle.trace.specs.declared.column.Column.{Column}
@@ -31,15 +32,19 @@ unless_fault (Some e) r = Err e
 -- ---- a line of names
 
 -- the order of four columns that each stand once
-abbrev pub ordered : Columns → Option Columns
-ordered cs = cond (only_once (column_order cs)) (Some cs) None
+abbrev pub ordered_by : (ks : List Column) (t : Bool) → only_once ks ≡ t → Option Columns
+ordered_by ks true e = Some (record { order = ks; each_once = e })
+ordered_by ks false e = None
+
+abbrev pub ordered : List Column → Option Columns
+ordered ks = ordered_by ks (only_once ks) refl
 
 abbrev pub order_of : Option Column → Option Column → Option Column → Option Column → Option Columns
 order_of None b c d = None
 order_of (Some a) None c d = None
 order_of (Some a) (Some b) None d = None
 order_of (Some a) (Some b) (Some c) None = None
-order_of (Some a) (Some b) (Some c) (Some d) = ordered (record { first = a; second = b; third = c; fourth = d })
+order_of (Some a) (Some b) (Some c) (Some d) = ordered (a ∷ (b ∷ (c ∷ (d ∷ []))))
 
 -- the order that four names give
 abbrev pub order_named : List (List ℕ) → Option Columns
@@ -141,9 +146,15 @@ formed t Gap = is_some (gap_in t.gap)
 formed t Addr = addr_formed (op_in t.op) t.addr
 formed t Data = data_formed (op_in t.op) t.«data»
 
+-- the leftmost of four columns without its form: the fourth where the others have theirs
+abbrev pub leftmost_of : List Column → (Column → Bool) → Column
+leftmost_of [] f = Op
+leftmost_of (c ∷ []) f = c
+leftmost_of (c ∷ (d ∷ ks)) f = cond (f c) (leftmost_of (d ∷ ks) f) c
+
 -- the column that a bad line names: the leftmost without its form
 abbrev pub named : Columns → (Column → Bool) → Column
-named cs f = cond (f cs.first) (cond (f cs.second) (cond (f cs.third) cs.fourth cs.third) cs.second) cs.first
+named cs f = leftmost_of (column_order cs) f
 
 abbrev pub judged : Columns → Texts → Result Cycle LineRefusal
 judged cs t = or_refuse (cycle_in t) (Value (named cs (formed t)))
@@ -159,7 +170,7 @@ value_line cs s = cycle_under cs s
 -- ---- what the code holds
 
 abbrev pub field_texts : Fields → List (List ℕ)
-field_texts f = f.first.now ∷ (f.second.now ∷ (f.third.now ∷ (f.fourth.now ∷ [])))
+field_texts f = map (λ p. p.now) f.texts
 
 -- the fields of a line, or its fault
 abbrev pub FieldsOf : List ℕ → Result Fields LineRefusal → Type 0

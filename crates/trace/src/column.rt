@@ -1,5 +1,5 @@
-ghost use Rattle.std.specs.Prelude.{◌≡◌, true, if◌then◌else◌, Decides, ◌==◌};
-ghost use Rattle.trace.specs.Naming.{name_of, same_column, column_order, times, only_once, standard_order};
+ghost use Rattle.std.specs.Prelude.{◌≡◌, true, Decides};
+ghost use Rattle.trace.specs.Names.{name_of, times, only_once};
 
 #[derive(Clone, Copy, PartialEq, Eq, Debug)]
 pub enum Column {
@@ -23,25 +23,23 @@ impl Column {
     }
 }
 
-// The columns in the order in which a line of names has them.
+// The columns in the order in which a line of names has them, each once.
 #[derive(Clone, Copy, PartialEq, Eq, Debug)]
 pub struct Columns {
-    pub(super) first: Column,
-    pub(super) second: Column,
-    pub(super) third: Column,
-    pub(super) fourth: Column,
+    pub(super) order: [Column; 4],
+    pub ghost each_once: { only_once order ≡ true },
 }
 
 impl Columns {
+    ghost use Rattle.trace.specs.Naming.{standard_order};
+    ghost use Rattle.trace.specs.Lines.{ordered};
+
     // The order in which cycles are written.
     pub fn standard() -> Columns
         ensures { result ≡ standard_order }
     {
         Columns {
-            first: Column::Op,
-            second: Column::Gap,
-            third: Column::Addr,
-            fourth: Column::Data,
+            order: [Column::Op, Column::Gap, Column::Addr, Column::Data],
         }
     }
 
@@ -49,40 +47,34 @@ impl Columns {
     pub fn is_standard(self) -> bool
         ensures { Decides result (self ≡ standard_order) }
     {
-        match (self.first, self.second, self.third, self.fourth) {
-            (Column::Op, Column::Gap, Column::Addr, Column::Data) => true,
-            _ => false,
+        self == Columns::standard()
+    }
+
+    // These columns, if each stands once.
+    // No `then_some`: a `Columns` may be made only where the test has passed.
+    pub(super) fn from_order(order: [Column; 4]) -> Option<Columns>
+        ensures { result ≡ ordered order }
+    {
+        if has_each_once(order) {
+            Some(Columns { order })
+        } else {
+            None
         }
-    }
-
-    pub(super) fn has_each_once(self) -> bool
-        ensures { result ≡ only_once (column_order self) }
-    {
-        self.has_once(Column::Op)
-            && self.has_once(Column::Gap)
-            && self.has_once(Column::Addr)
-            && self.has_once(Column::Data)
-    }
-
-    fn has_once(self, column: Column) -> bool
-        ensures { result ≡ (times column (column_order self) == 1) }
-    {
-        self.times(column) == 1
-    }
-
-    fn times(self, column: Column) -> u8
-        ensures { result ≡ times column (column_order self) }
-    {
-        is_one(self.first, column)
-            + is_one(self.second, column)
-            + is_one(self.third, column)
-            + is_one(self.fourth, column)
     }
 }
 
-// 1 for the same column, 0 for another.
-fn is_one(a: Column, b: Column) -> u8
-    ensures { result ≡ (if same_column a b then 1 else 0) }
+// Does each of the four columns stand once?
+// The wirings ask the like of bytes, in a crate that shares nothing with this one.
+fn has_each_once(order: [Column; 4]) -> bool
+    ensures { result ≡ only_once order }
 {
-    u8::from(a == b)
+    let columns = [Column::Op, Column::Gap, Column::Addr, Column::Data];
+    columns.iter().all(|column| times(*column, order) == 1)
+}
+
+// How often the column stands among these: of columns, as the wirings count bytes.
+fn times(column: Column, order: [Column; 4]) -> usize
+    ensures { result ≡ times column order }
+{
+    order.iter().filter(|other| **other == column).count()
 }

@@ -18,6 +18,7 @@ pub enum LineRefusal {
 
 impl LineRefusal {
     // The number under which a refused line is reported.
+    // A match and no discriminants: a variant has a field.
     pub fn number(self) -> u8
         ensures { result ≡ line_number self }
     {

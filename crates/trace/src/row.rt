@@ -1,5 +1,4 @@
 ghost use Rattle.std.specs.Prelude.{◌≡◌};
-ghost use Rattle.fields.specs.Forms.{op_in, gap_in};
 ghost use Rattle.trace.specs.Lines.{field_texts, row_texts, field_of, placed, by_column, load_of, read_of, wait_of, cycle_in, formed, named};
 
 use super::{Column, Columns, Cycle};
@@ -28,6 +27,7 @@ impl<'a> Field<'a> {
 }
 
 // The fields of a line of values, each under its column.
+// Four parts by name: a field is an enum case, made and matched one at a time.
 #[derive(Clone, Copy)]
 pub struct Row<'a> {
     op: &'a [u8],
@@ -54,19 +54,20 @@ impl<'a> Row<'a> {
         ensures { row_texts result ≡ by_column columns (field_texts fields.entry) }
     {
         let none: &[u8] = &[];
-        let row = Row {
+        let mut row = Row {
             op: none,
             gap: none,
             addr: none,
             data: none,
         };
-        let row = row.with(Field::under(columns.first, fields.first));
-        let row = row.with(Field::under(columns.second, fields.second));
-        let row = row.with(Field::under(columns.third, fields.third));
-        row.with(Field::under(columns.fourth, fields.fourth))
+        for (column, text) in columns.order.iter().zip(fields.texts.iter()) {
+            row = row.with(Field::under(*column, text));
+        }
+        row
     }
 
     // The cycle, where every value has its form.
+    // A match and no table of steps: the op is a value of the line, and so matched.
     pub(crate) fn cycle(self) -> Option<Cycle>
         ensures { result ≡ cycle_in (row_texts self.entry) }
     {
@@ -90,21 +91,13 @@ impl<'a> Row<'a> {
         ensures { result ≡ read_of gap (row_texts self.entry) }
     {
         let address = read_address(self.addr)?;
-        if is_dash(self.data) {
-            Some(Cycle::Read { gap, address })
-        } else {
-            None
-        }
+        is_dash(self.data).then_some(Cycle::Read { gap, address })
     }
 
     fn wait(self, gap: u16) -> Option<Cycle>
         ensures { result ≡ wait_of gap (row_texts self.entry) }
     {
-        if is_dash(self.addr) && is_dash(self.data) {
-            Some(Cycle::Wait { gap })
-        } else {
-            None
-        }
+        (is_dash(self.addr) && is_dash(self.data)).then_some(Cycle::Wait { gap })
     }
 
     // Has the value of this column its form? Address and data go by the op, so under a bad op they count as good.
@@ -126,15 +119,12 @@ impl<'a> Row<'a> {
     pub(crate) fn bad_column(self, columns: Columns) -> Column
         ensures { result ≡ named columns (formed (row_texts self.entry)) }
     {
-        match (
-            self.has_form(columns.first),
-            self.has_form(columns.second),
-            self.has_form(columns.third),
-        ) {
-            (false, _, _) => columns.first,
-            (_, false, _) => columns.second,
-            (_, _, false) => columns.third,
-            _ => columns.fourth,
-        }
+        let [.., last] = columns.order;
+        columns
+            .order
+            .iter()
+            .copied()
+            .find(|column| !self.has_form(*column))
+            .unwrap_or(last)
     }
 }

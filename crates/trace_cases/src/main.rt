@@ -4,18 +4,57 @@
 
 use std::io;
 use std::io::{BufRead, BufReader};
-use trace::{Columns, Cycle, LineRefusal};
+use trace::{Column, Columns, Cycle, LineRefusal};
 use writer::write_and_read;
 
 // Room for the longest line. What the line leaves of it shows as `~`.
 const PLACE: [u8; 16] = [b'~'; 16];
 
+// Cycles at the edges of the writer's checks, each with the room that it gets.
+const WRITES: [(Cycle, usize); 6] = [
+    (
+        Cycle::Load {
+            gap: 0,
+            address: 0x100000,
+            data: 0,
+        },
+        16,
+    ),
+    (
+        Cycle::Read {
+            gap: 0,
+            address: 0x100000,
+        },
+        15,
+    ),
+    (
+        Cycle::Read {
+            gap: 0,
+            address: 0xFFFFFFFF,
+        },
+        0,
+    ),
+    (
+        Cycle::Read {
+            gap: 0,
+            address: 0xFFFFF,
+        },
+        15,
+    ),
+    (Cycle::Wait { gap: 0 }, 15),
+    (
+        Cycle::Load {
+            gap: 65535,
+            address: 0xFFFFF,
+            data: 255,
+        },
+        16,
+    ),
+];
+
 fn print_refusal(rt: &HostRuntime, refusal: LineRefusal) -> io::Result<()> {
     let number = refusal.number();
-    let column = match refusal.column() {
-        Some(column) => column.name(),
-        None => "-",
-    };
+    let column = refusal.column().map_or("-", Column::name);
     println!(rt; "refused {number} {column}")
 }
 
@@ -66,23 +105,12 @@ fn run_case(rt: &HostRuntime, columns: &mut Columns, case: &[u8]) -> io::Result<
     }
 }
 
-fn without_end(line: &[u8]) -> &[u8] {
-    match line {
-        [before @ .., b'\n'] => before,
-        whole => whole,
-    }
-}
-
 fn run_cases(rt: &HostRuntime) -> io::Result<()> {
-    let mut input = BufReader::new(rt.alloc(), rt.stdin())?;
-    let mut case = Vec::new(rt.alloc());
+    let input = BufReader::new(rt.alloc(), rt.stdin())?;
     let mut columns = Columns::standard();
-    for _ in 0..u64::MAX {
-        case.clear();
-        if input.read_until(b'\n', &mut case)? == 0 {
-            break;
-        }
-        run_case(rt, &mut columns, without_end(case.as_slice()))?;
+    for case in input.split(rt.alloc(), b'\n') {
+        let case = case?;
+        run_case(rt, &mut columns, case.as_slice())?;
     }
     Ok(())
 }
@@ -90,53 +118,12 @@ fn run_cases(rt: &HostRuntime) -> io::Result<()> {
 // The checks of the writer: first the address, then the place.
 fn run_writes(rt: &HostRuntime) -> io::Result<()> {
     println!(rt; "# an address above FFFFF, then a place under 16 bytes")?;
-    let top = 0xFFFFF;
-    let above = 0x100000;
-    let mut place = PLACE;
-    let mut short = [b'~'; 15];
-    print_write(
-        rt,
-        Cycle::Load {
-            gap: 0,
-            address: above,
-            data: 0,
-        },
-        &mut place,
-    )?;
-    print_write(
-        rt,
-        Cycle::Read {
-            gap: 0,
-            address: above,
-        },
-        &mut short,
-    )?;
-    print_write(
-        rt,
-        Cycle::Read {
-            gap: 0,
-            address: 0xFFFFFFFF,
-        },
-        &mut [],
-    )?;
-    print_write(
-        rt,
-        Cycle::Read {
-            gap: 0,
-            address: top,
-        },
-        &mut short,
-    )?;
-    print_write(rt, Cycle::Wait { gap: 0 }, &mut short)?;
-    print_write(
-        rt,
-        Cycle::Load {
-            gap: 65535,
-            address: top,
-            data: 255,
-        },
-        &mut place,
-    )
+    for (cycle, room) in WRITES {
+        let mut place = PLACE;
+        let room = room.min(place.len());
+        print_write(rt, cycle, &mut place[..room])?;
+    }
+    Ok(())
 }
 
 fn main(rt: HostRuntime) -> io::Result<()> {

@@ -1,2 +1,2 @@
-pub mod Drafts
 pub mod Back
+pub mod Lines

@@ -7,7 +7,6 @@ use Rattle.trace.specs.Lines.{value_line}
 use Rattle.fields.specs.Splitting.{joined}
 use Rattle.trace.specs.declared.cycle.Cycle.{Cycle}
 use Rattle.trace.specs.declared.cycle.Cycle.TheVariants.{Load, Read, Wait}
-use Rattle.writer.specs.declared.draft.Draft.{Draft}
 use Rattle.writer.specs.declared.refusal.WriteRefusal.{WriteRefusal}
 
 -- the capital digit of a number below 16
@@ -35,6 +34,22 @@ abbrev pub data_of : Cycle → ℕ
 data_of (Load g a d) = d
 data_of (Read g a) = 0
 data_of (Wait g) = 0
+
+-- the address, and the data, where there is one
+abbrev pub address_of : Cycle → Option ℕ
+address_of (Load g a d) = Some a
+address_of (Read g a) = Some a
+address_of (Wait g) = None
+
+abbrev pub byte_of : Cycle → Option ℕ
+byte_of (Load g a d) = Some d
+byte_of (Read g a) = None
+byte_of (Wait g) = None
+
+-- a value in this many hexadecimal digits, or a dash
+abbrev pub value_text : ℕ → Option ℕ → List ℕ
+value_text k None = 45 ∷ []
+value_text k (Some n) = hex_text k n
 
 -- the address in all its digits, or a dash
 abbrev pub addr_text : Cycle → List ℕ
@@ -73,10 +88,6 @@ pub record Fronts (p w : List ℕ) (n : ℕ) (q : List ℕ) : Type 0 where
 abbrev pub Wrote : Cycle → List ℕ → Result ℕ WriteRefusal → List ℕ → Type 0
 Wrote x p (Ok n) q = (first_failed x (length p) ≡ None) × Fronts p (text_of x) n q
 Wrote x p (Err e) q = (first_failed x (length p) ≡ Some (write_number e)) × (q ≡ p)
-
--- what is written so far of a line that grows from its end
-abbrev pub draft_text : Draft → List ℕ
-draft_text d = drop d.start d.bytes
 
 -- the line of a cycle that was written reads as that cycle, in the order in which it is written
 abbrev pub ReadsBack : Cycle → Result ℕ WriteRefusal → Type 0

@@ -1,10 +1,9 @@
 // One cycle as a line of a trace, in the order op, gap, addr, data.
 #![tactic(auto)]
 
-mod digits;
-mod draft;
 mod line;
 mod refusal;
+mod values;
 mod write;
 
 pub use refusal::WriteRefusal;

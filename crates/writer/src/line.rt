@@ -1,81 +1,64 @@
-ghost use Rattle.std.specs.Prelude.{◌≡◌, ◌+◌, ◌<◌, ◌≤◌, false, ◌++◌, Ok, decimal};
-ghost use Rattle.fields.specs.Forms.{gap_digits, gap_top, address_digits, data_digits};
+ghost use Rattle.std.specs.Prelude.{◌≡◌, ◌+◌, ◌<◌, ◌≤◌, false, ◌++◌, length, Ok};
+ghost use Rattle.fields.specs.Forms.{longest};
 ghost use Rattle.trace.specs.Naming.{standard_order};
 ghost use Rattle.trace.specs.Lines.{value_line};
-ghost use Rattle.writer.specs.Writing.{letter_of, gap_of, data_of, addr_text, data_text, text_of, too_high, draft_text};
+ghost use Rattle.writer.specs.Writing.{hex_char, hex_text, value_text, text_of, too_high};
 
-use super::draft::Draft;
-use fields::{ADDRESS_DIGITS, DATA_DIGITS};
+use super::values::{address, data, gap, letter};
+use arrayvec::ArrayString;
+use fields::{ADDRESS_DIGITS, DATA_DIGITS, GAP_DIGITS};
+use itoa::Buffer;
 use trace::Cycle;
 
-fn letter(cycle: Cycle) -> u8
-    ensures { result ≡ letter_of cycle }
+// The longest line: op, gap, addr and data with single spaces between.
+pub const LONGEST: usize = 1 + 1 + GAP_DIGITS + 1 + ADDRESS_DIGITS + 1 + DATA_DIGITS;
+
+// The line of a cycle.
+// No `Display` and `write!`: nothing says that a write to a text with room succeeds, and this cannot fail.
+pub(crate) fn line_of(cycle: Cycle) -> ArrayString<LONGEST>
+    ensures text { result.bytes ≡ text_of cycle }
+    ensures reads { too_high cycle ≡ false → value_line standard_order (text_of cycle) ≡ Ok cycle }
 {
-    match cycle {
-        Cycle::Load { .. } => b'L',
-        Cycle::Read { .. } => b'R',
-        Cycle::Wait { .. } => b'W',
+    let mut line = ArrayString::new();
+    line.push(letter(cycle));
+    line.push(' ');
+    line.push_str(Buffer::new().format(gap(cycle)));
+    line.push(' ');
+    push_value(&mut line, ADDRESS_DIGITS, address(cycle));
+    line.push(' ');
+    push_value(&mut line, DATA_DIGITS, data(cycle));
+    line
+}
+
+// A value in all its digits, or a dash.
+fn push_value(line: &mut ArrayString<LONGEST>, digits: usize, value: Option<u32>)
+    requires digits { 0 < digits }
+    requires room { length line.old.bytes + digits ≤ longest }
+    ensures text { line.new.bytes ≡ line.old.bytes ++ value_text digits value }
+    ensures room { length line.new.bytes ≤ length line.old.bytes + digits }
+{
+    match value {
+        Some(number) => push_hex(line, digits, number),
+        None => line.push('-'),
     }
 }
 
-fn gap(cycle: Cycle) -> u16
-    ensures { result ≡ gap_of cycle }
+// This many hexadecimal digits, the highest first.
+fn push_hex(line: &mut ArrayString<LONGEST>, digits: usize, number: u32)
+    requires { length line.old.bytes + digits ≤ longest }
+    ensures text { line.new.bytes ≡ line.old.bytes ++ hex_text digits number }
+    ensures len { length line.new.bytes ≡ length line.old.bytes + digits }
 {
-    match cycle {
-        Cycle::Load { gap, .. } => gap,
-        Cycle::Read { gap, .. } => gap,
-        Cycle::Wait { gap } => gap,
+    if digits > 0 {
+        push_hex(line, digits - 1, number / 16);
+        line.push(hex_digit(number % 16));
     }
 }
 
-impl Draft {
-    // The line of a cycle.
-    pub(crate) fn of(cycle: Cycle) -> Draft
-        ensures text { draft_text result ≡ text_of cycle }
-        ensures reads { too_high cycle ≡ false → value_line standard_order (text_of cycle) ≡ Ok cycle }
-    {
-        let mut draft = Draft::new();
-        draft.put_data(cycle);
-        draft.put(b' ');
-        draft.put_address(cycle);
-        draft.put(b' ');
-        draft.put_gap(cycle);
-        draft.put(b' ');
-        draft.put(letter(cycle));
-        draft
-    }
-
-    fn put_gap(&mut self, cycle: Cycle)
-        requires { gap_digits ≤ self.old.start }
-        ensures text { draft_text self.new ≡ decimal (gap_of cycle) ++ draft_text self.old }
-        ensures start { self.old.start ≤ self.new.start + gap_digits }
-        ensures top { gap_of cycle ≤ gap_top }
-    {
-        self.put_decimal(u32::from(gap(cycle)));
-    }
-
-    fn put_address(&mut self, cycle: Cycle)
-        requires { address_digits ≤ self.old.start }
-        ensures text { draft_text self.new ≡ addr_text cycle ++ draft_text self.old }
-        ensures start { self.old.start ≤ self.new.start + address_digits }
-    {
-        match cycle {
-            Cycle::Load { address, .. } => self.put_hex(ADDRESS_DIGITS, address),
-            Cycle::Read { address, .. } => self.put_hex(ADDRESS_DIGITS, address),
-            Cycle::Wait { .. } => self.put(b'-'),
-        }
-    }
-
-    fn put_data(&mut self, cycle: Cycle)
-        requires { data_digits ≤ self.old.start }
-        ensures text { draft_text self.new ≡ data_text cycle ++ draft_text self.old }
-        ensures start { self.old.start ≤ self.new.start + data_digits }
-        ensures byte { data_of cycle < 256 }
-    {
-        match cycle {
-            Cycle::Load { data, .. } => self.put_hex(DATA_DIGITS, u32::from(data)),
-            Cycle::Read { .. } => self.put(b'-'),
-            Cycle::Wait { .. } => self.put(b'-'),
-        }
-    }
+// The capital digit of a number below 16.
+fn hex_digit(value: u32) -> char
+    requires { value < 16 }
+    ensures { result ≡ hex_char value }
+{
+    char::from_digit(value, 16).unwrap().to_ascii_uppercase()
 }

@@ -1,24 +1,12 @@
 ghost use Rattle.std.specs.Prelude.{◌≡◌, ◌≤◌, length, Ok};
 ghost use Rattle.trace.specs.Naming.{standard_order};
 ghost use Rattle.trace.specs.Lines.{value_line};
-ghost use Rattle.writer.specs.Writing.{text_of, too_high, Fronts, Wrote, ReadsBack, RoundTrip};
+ghost use Rattle.writer.specs.Writing.{text_of, Fronts, Wrote, ReadsBack, RoundTrip};
 
 use super::WriteRefusal;
-use super::draft::{Draft, LONGEST};
+use super::line::{LONGEST, line_of};
+use super::values::is_too_high;
 use trace::{Columns, Cycle};
-
-const ADDRESS_TOP: u32 = 0xFFFFF;
-
-// Is the address too high for the digits of a line?
-fn is_too_high(cycle: Cycle) -> bool
-    ensures { result ≡ too_high cycle }
-{
-    match cycle {
-        Cycle::Load { address, .. } => address > ADDRESS_TOP,
-        Cycle::Read { address, .. } => address > ADDRESS_TOP,
-        Cycle::Wait { .. } => false,
-    }
-}
 
 // Copies a text to the front of a place.
 fn copy(text: &[u8], place: &mut [u8]) -> usize
@@ -41,8 +29,7 @@ pub fn write_cycle(cycle: Cycle, place: &mut [u8]) -> Result<usize, WriteRefusal
     if place.len() < LONGEST {
         return Err(WriteRefusal::Place);
     }
-    let draft = Draft::of(cycle);
-    Ok(copy(draft.text(), place))
+    Ok(copy(line_of(cycle).as_str().as_bytes(), place))
 }
 
 // Writes a cycle into a place, and reads it back from there.
@@ -57,10 +44,8 @@ pub fn write_and_read(cycle: Cycle, place: &mut [u8]) -> Result<Cycle, WriteRefu
 fn read_back(cycle: Cycle, line: &[u8]) -> Cycle
     requires line { line.now ≡ text_of cycle }
     requires reads { value_line standard_order (text_of cycle) ≡ Ok cycle }
-    ensures { (value_line standard_order line.now ≡ Ok result) × (result ≡ cycle) }
+    ensures reads { value_line standard_order line.now ≡ Ok result }
+    ensures same { result ≡ cycle }
 {
-    match Cycle::from_line(Columns::standard(), line) {
-        Ok(back) => back,
-        Err(_) => unreachable(),
-    }
+    Cycle::from_line(Columns::standard(), line).unwrap()
 }
