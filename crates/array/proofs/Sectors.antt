@@ -1,18 +1,12 @@
 -- A page laid over a filling, and a sector written byte by byte. Assumes nothing.
-use Rattle.std.proofs.Common.{◌≡◌, ℕ, zero, suc, ◌+◌, ◌-◌, ◌*◌, ◌<◌, ◌≤◌, Bool, List, [], ◌∷◌, ◌++◌, length, get_or, take, drop, set, None, Option, unwrap_or, sym, refl, ap, ◌∙◌, subst, add-zero, add-one, arith, take-take}
+use Rattle.std.proofs.Common.{◌≡◌, ℕ, zero, suc, ◌+◌, ◌-◌, ◌*◌, ◌<◌, ◌≤◌, List, ◌∷◌, ◌++◌, length, get_or, take, drop, set, None, Option, unwrap_or, sym, refl, ap, ◌∙◌, subst, add-zero, add-one, arith, take-take}
 use lib.Seq.{paste, paste-suc, length_paste_head, take-append-add}
 use Rattle.std.proofs.lemmas.List.{get_or-append_right, get_or-take, get_or-drop, drop-take}
-use Rattle.bus.specs.Meaning.{State}
 use Rattle.bus.specs.Outcomes.{programmed, with_sector}
 use Rattle.array.specs.Filling.{fill_from}
 use Rattle.bus.specs.Sizes.{length-programmed}
+use Rattle.bus.proofs.Pages.{get_or-programmed}
 use Rattle.array.specs.Sizes.{length-fill}
-
-pub get_or-programmed : (os : List (Option ℕ)) (fs : List ℕ) (i d : ℕ) → i < length fs → get_or (programmed os fs) i d ≡ unwrap_or (get_or os i None) (get_or fs i d)
-get_or-programmed os [] i d h = absurd (omega arith)
-get_or-programmed [] (f ∷ fs) i d h = refl
-get_or-programmed (x ∷ os) (f ∷ fs) zero d h = refl
-get_or-programmed (x ∷ os) (f ∷ fs) (suc i) d h = get_or-programmed os fs i d (omega arith)
 
 pub get_or-fill : (h : ℕ → ℕ) (bytes : List ℕ) (at n i : ℕ) → i < n → get_or (fill_from h bytes at n) i 0 ≡ h (get_or bytes (at + i) 0)
 unfolding fill_from
@@ -71,7 +65,3 @@ whole_row h mem mem' m m' r page low high same e =
     let cut = subst (λ (j : ℕ). take j (paste mem (128 * r) row 128) ≡ paste (take j mem) (128 * r) row 128) z (cut_paste mem (128 * r) row k (row_length h mem (128 * r) page) (omega arith)) in
     ap (λ (j : ℕ). take j mem') same ∙ ap (take m) e ∙ cut
     ∙ ap (λ (fs : List ℕ). with_sector (take m mem) r (programmed page fs)) (sym (fill_take h mem m (128 * r) 128 low))
-
-pub same_state : (b b' : List ℕ) (g g' l l' u u' : Bool) → b ≡ b' → g ≡ g' → l ≡ l' → u ≡ u' →
-    ◌≡◌ {A = State} (record { bytes = b; protected = g; low_locked = l; high_locked = u }) (record { bytes = b'; protected = g'; low_locked = l'; high_locked = u' })
-same_state b b' g g' l l' u u' p q r s = rw (p, q, r, s)

@@ -1,3 +1,4 @@
 pub mod Filling
+pub mod Fits
 pub mod Meaning
 pub mod Sizes

@@ -8,7 +8,7 @@ abbrev pub count_for : ℕ → ℕ → ℕ
 count_for n room = cond (nat_le 256 n && (nat_le n 8192 && nat_le (128 * n) room)) n 0
 
 abbrev pub count_of : FlashArray → ℕ
-count_of a = count_for a.sectors (length a.memory.now)
+count_of a = a.sectors
 
 abbrev pub state_of : FlashArray → State
 state_of a = record { bytes = take (128 * count_of a) a.memory.now; protected = a.protected; low_locked = a.low_locked; high_locked = a.high_locked }

@@ -1,5 +1,8 @@
-// No ghost field, so that a part that holds an array can be a type argument; every value of the fields means some array. Its methods
-// stand in modules below, since their contracts cite definitions over it.
+// A plain number of sectors beside the lent memory, as a part is made: none, or 256 to 8,192 for which the memory has room. Methods
+// stand in modules below, since their contracts cite definitions over the struct.
+ghost use Rattle.std.specs.Prelude.{length};
+ghost use Rattle.array.specs.Fits.{Fit};
+
 mod closing;
 mod reading;
 
@@ -10,4 +13,5 @@ pub struct FlashArray<'a> {
     protected: bool,
     low_locked: bool,
     high_locked: bool,
+    ghost fits: { Fit sectors (length memory.now) },
 }

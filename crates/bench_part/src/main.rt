@@ -4,42 +4,40 @@
 mod play;
 mod script;
 
-use play::{play, refusal};
-use script::{Line, Setup, parse};
+use bus::call::Call;
+use play::play;
+use script::{Line, Setup};
 use std::io::{BufRead, BufReader};
-use texts::bus_calls::BusAnswer;
+use texts::BusAnswer;
 
-// A part, and the calls on it with the lines that ask for them.
+// A part, and the calls on it, each with the line that asks for it.
 #[derive(Drop)]
 struct Section {
     setup: Setup,
-    lines: Vec<String>,
-    calls: Vec<bus::call::Call>,
+    calls: Vec<(String, Call)>,
 }
 
 // Makes the calls of a section, and prints each line with its answer.
 fn finish(rt: &HostRuntime, section: &Section) -> anyhow::Result<()> {
-    let answers = play(rt.alloc(), &section.setup, &section.calls)?;
-    for (line, answer) in section.lines.iter().zip(answers.iter()) {
-        let answer = BusAnswer(*answer);
-        println!(rt; "{line}: {answer}")?;
+    let heap = rt.alloc();
+    let calls: Vec<Call> = section.calls.iter().map(|(_, call)| *call).collect(heap)?;
+    let answers = play(heap, &section.setup, &calls)?.answers;
+    for ((line, _), answer) in section.calls.iter().zip(answers.iter()) {
+        println!(rt; "{line}: {}", BusAnswer(*answer))?;
     }
     Ok(())
 }
 
 // Begins the section of a new part.
 fn begin(rt: &HostRuntime, line: &str, setup: Setup) -> anyhow::Result<Section> {
-    match refusal(rt.alloc(), &setup)? {
-        Some(refusal) => {
-            let number = refusal.number();
-            println!(rt; "{line}: refused {number}")?;
-        }
-        None => println!(rt; "{line}: made")?,
+    let heap = rt.alloc();
+    match play(heap, &setup, &[])?.checked {
+        Ok(()) => println!(rt; "{line}: made")?,
+        Err(refusal) => println!(rt; "{line}: refused {}", refusal.number())?,
     }
     Ok(Section {
         setup,
-        lines: Vec::new(rt.alloc()),
-        calls: Vec::new(rt.alloc()),
+        calls: Vec::new(heap),
     })
 }
 
@@ -48,15 +46,12 @@ fn run(rt: &HostRuntime) -> anyhow::Result<()> {
     let mut section = begin(rt, "part bench FF steady 10000", Setup::standard())?;
     for line in BufReader::new(heap, rt.stdin())?.lines(heap) {
         let line = line?;
-        match parse(heap, &line)? {
+        match Line::parse(heap, &line)? {
             Line::Part(setup) => {
                 finish(rt, &section)?;
                 section = begin(rt, &line, setup)?;
             }
-            Line::Call(call) => {
-                section.lines.push(line)?;
-                section.calls.push(call)?;
-            }
+            Line::Call(call) => section.calls.push((line, call))?,
         }
     }
     finish(rt, &section)

@@ -1,6 +1,7 @@
 // Scripts played on parts.
 use crate::script::{Chip, Setup, Timing};
 use bus::call::{Answer, Call};
+use kinds::behaviour::Behaviour;
 use kinds::part_kind::{At29c010a, Bench, PartKind};
 use kinds::refusal::PartRefusal;
 use kinds::steady::Steady;
@@ -9,54 +10,40 @@ use parts::making::{check, make};
 use parts::run::run;
 use std::alloc::{AllocError, Global};
 
-fn memory<K: PartKind>(heap: Global, setup: &Setup) -> Result<Vec<u8>, AllocError> {
-    vec![in heap; setup.fill; 128 * K::sector_count() as usize]
+// What the check of a part says, and what the calls on it answer.
+#[derive(Drop)]
+pub struct Played {
+    pub checked: Result<(), PartRefusal>,
+    pub answers: Vec<Answer>,
 }
 
-fn play_kind<K: PartKind>(
+fn play_on<K: PartKind, B: Behaviour + Drop>(
     heap: Global,
-    setup: &Setup,
+    fill: u8,
+    behaviour: B,
     calls: &[Call],
-) -> Result<Vec<Answer>, AllocError> {
-    let mut memory = memory::<K>(heap, setup)?;
-    match &setup.timing {
-        Timing::Steady(time) => run(
-            heap,
-            &mut make::<K, Steady>(&mut memory, Steady::new(*time)),
-            calls,
-        ),
-        Timing::Uneven(times) => run(
-            heap,
-            &mut make::<K, Uneven>(&mut memory, Uneven::new(times)),
-            calls,
-        ),
+) -> Result<Played, AllocError> {
+    let mut memory = vec![in heap; fill; 128 * K::SECTORS as usize]?;
+    let checked = check::<K, B>(&memory, &behaviour);
+    let answers = run(heap, &mut make::<K, B>(&mut memory, behaviour), calls)?;
+    Ok(Played { checked, answers })
+}
+
+// Makes the calls on a new part.
+pub(crate) fn play(heap: Global, setup: &Setup, calls: &[Call]) -> Result<Played, AllocError> {
+    let fill = setup.fill;
+    match (setup.chip, &setup.timing) {
+        (Chip::At29c010a, Timing::Steady(time)) => {
+            play_on::<At29c010a, _>(heap, fill, Steady::new(*time), calls)
+        }
+        (Chip::At29c010a, Timing::Uneven(times)) => {
+            play_on::<At29c010a, _>(heap, fill, Uneven::new(times), calls)
+        }
+        (Chip::Bench, Timing::Steady(time)) => {
+            play_on::<Bench, _>(heap, fill, Steady::new(*time), calls)
+        }
+        (Chip::Bench, Timing::Uneven(times)) => {
+            play_on::<Bench, _>(heap, fill, Uneven::new(times), calls)
+        }
     }
-}
-
-// The answers of the calls on a new part.
-pub(crate) fn play(heap: Global, setup: &Setup, calls: &[Call]) -> anyhow::Result<Vec<Answer>> {
-    Ok(match setup.chip {
-        Chip::At29c010a => play_kind::<At29c010a>(heap, setup, calls)?,
-        Chip::Bench => play_kind::<Bench>(heap, setup, calls)?,
-    })
-}
-
-fn refusal_of_kind<K: PartKind>(
-    heap: Global,
-    setup: &Setup,
-) -> Result<Option<PartRefusal>, AllocError> {
-    let memory = memory::<K>(heap, setup)?;
-    let checked = match &setup.timing {
-        Timing::Steady(time) => check::<K, Steady>(&memory, &Steady::new(*time)),
-        Timing::Uneven(times) => check::<K, Uneven>(&memory, &Uneven::new(times)),
-    };
-    Ok(checked.err())
-}
-
-// What the check of the part has against it.
-pub(crate) fn refusal(heap: Global, setup: &Setup) -> anyhow::Result<Option<PartRefusal>> {
-    Ok(match setup.chip {
-        Chip::At29c010a => refusal_of_kind::<At29c010a>(heap, setup)?,
-        Chip::Bench => refusal_of_kind::<Bench>(heap, setup)?,
-    })
 }

@@ -1,5 +1,5 @@
 // The lines of a script.
-use anyhow::anyhow;
+use anyhow::{Context, anyhow};
 use bus::call::Call;
 use bus::load::Load;
 use std::alloc::Global;
@@ -25,6 +25,16 @@ pub enum Timing {
     Uneven(Vec<u16>),
 }
 
+#[derive(Drop)]
+pub enum Line {
+    Part(Setup),
+    Call(Call),
+}
+
+fn word<'a>(words: &mut Split<'a, char>) -> anyhow::Result<&'a str> {
+    words.next().context("a word is missing")
+}
+
 impl Setup {
     pub(crate) fn standard() -> Setup {
         Setup {
@@ -33,62 +43,53 @@ impl Setup {
             timing: Timing::Steady(10000),
         }
     }
-}
 
-#[derive(Drop)]
-pub enum Line {
-    Part(Setup),
-    Call(Call),
-}
-
-fn word<'a>(word: Option<&'a str>) -> anyhow::Result<&'a str> {
-    match word {
-        Some(word) => Ok(word),
-        None => Err(anyhow!("a word is missing")),
+    fn parse(heap: Global, mut words: Split<'_, char>) -> anyhow::Result<Setup> {
+        let chip = match word(&mut words)? {
+            "AT29C010A" => Chip::At29c010a,
+            "bench" => Chip::Bench,
+            _ => return Err(anyhow!("no such kind of part")),
+        };
+        let fill = u8::from_str_radix(word(&mut words)?, 16)?;
+        let timing = match word(&mut words)? {
+            "steady" => Timing::Steady(word(&mut words)?.parse::<u16>()?),
+            "uneven" => Timing::Uneven(times(heap, words)?),
+            _ => return Err(anyhow!("no such behaviour")),
+        };
+        Ok(Setup { chip, fill, timing })
     }
 }
 
-// A line such as `part bench FF steady 10000`, `L 1 5555 AA`, `R 1 5555 -`, `W 151 - -` or `I`.
-pub(crate) fn parse(heap: Global, line: &str) -> anyhow::Result<Line> {
-    let mut words = line.split(' ');
-    match word(words.next())? {
-        "part" => {
-            let chip = match word(words.next())? {
-                "AT29C010A" => Chip::At29c010a,
-                "bench" => Chip::Bench,
-                _ => return Err(anyhow!("no such kind of part")),
-            };
-            let fill = u8::from_str_radix(word(words.next())?, 16)?;
-            let timing = match word(words.next())? {
-                "steady" => Timing::Steady(word(words.next())?.parse::<u16>()?),
-                "uneven" => {
-                    let mut times = Vec::new(heap);
-                    for time in words {
-                        times.push(time.parse::<u16>()?)?;
-                    }
-                    Timing::Uneven(times)
-                }
-                _ => return Err(anyhow!("no such behaviour")),
-            };
-            Ok(Line::Part(Setup { chip, fill, timing }))
+fn times(heap: Global, words: Split<'_, char>) -> anyhow::Result<Vec<u16>> {
+    words
+        .map(|word| -> anyhow::Result<u16> { Ok(word.parse::<u16>()?) })
+        .try_collect(heap)
+}
+
+fn parse_call(op: &str, words: &mut Split<'_, char>) -> anyhow::Result<Call> {
+    let gap = word(words)?.parse::<u16>()?;
+    let address = word(words)?;
+    let byte = word(words)?;
+    match op {
+        "L" => {
+            let address = u32::from_str_radix(address, 16)?;
+            let byte = u8::from_str_radix(byte, 16)?;
+            Ok(Call::Load(Load { address, byte }, gap))
         }
-        "I" => Ok(Line::Call(Call::Identify)),
-        op => {
-            let gap = word(words.next())?.parse::<u16>()?;
-            let address = word(words.next())?;
-            let byte = word(words.next())?;
-            match op {
-                "L" => Ok(Line::Call(Call::Load(
-                    Load {
-                        address: u32::from_str_radix(address, 16)?,
-                        byte: u8::from_str_radix(byte, 16)?,
-                    },
-                    gap,
-                ))),
-                "R" => Ok(Line::Call(Call::Read(u32::from_str_radix(address, 16)?, gap))),
-                "W" => Ok(Line::Call(Call::Wait(gap))),
-                _ => Err(anyhow!("no such call")),
-            }
+        "R" => Ok(Call::Read(u32::from_str_radix(address, 16)?, gap)),
+        "W" => Ok(Call::Wait(gap)),
+        _ => Err(anyhow!("no such call")),
+    }
+}
+
+impl Line {
+    // A line such as `part bench FF steady 10000`, `L 1 5555 AA`, `R 1 5555 -`, `W 151 - -` or `I`.
+    pub(crate) fn parse(heap: Global, line: &str) -> anyhow::Result<Line> {
+        let mut words = line.split(' ');
+        match word(&mut words)? {
+            "part" => Ok(Line::Part(Setup::parse(heap, words)?)),
+            "I" => Ok(Line::Call(Call::Identify)),
+            op => Ok(Line::Call(parse_call(op, &mut words)?)),
         }
     }
 }

@@ -8,7 +8,6 @@ use Rattle.bus.specs.declared.call.Call.{Call}
 use Rattle.bus.specs.declared.call.Call.TheVariants as Calls
 use Rattle.bus.specs.declared.refusal.BusRefusal.{BusRefusal}
 use Rattle.bus.specs.declared.refusal.BusRefusal.TheVariants.{Outside, ReservedCode}
-use Rattle.bus.specs.declared.call.Answer.{Answer}
 use Rattle.bus.proofs.Summaries.{summary}
 use Rattle.bus.proofs.Settling.{Good, Inside, good_step}
 use Rattle.bus.specs.Meaning.{State, Period, Phase, rest, opened, cycle, Chip, with_phase}
@@ -18,7 +17,7 @@ use Rattle.bus.specs.Outcomes.{settle}
 use Rattle.bus.specs.Time.{running, passed_phase, passed}
 use Rattle.bus.specs.Refusals.{inside, load_refusal}
 use Rattle.bus.specs.Steps.{loaded_in, LoadsInside, ReadsInside, Loads, Reads, Waits}
-use Rattle.bus.specs.History.{Step, load_answer, read_answer, Answered, Run, refusal_of, time_of, Told, is_nil, all, later, tell_load, tell, tell_all, periods_of}
+use Rattle.bus.specs.History.{Answer, Step, load_answer, read_answer, Answered, Run, refusal_of, time_of, Told, is_nil, all, later, tell_load, tell, tell_all, periods_of}
 use Rattle.bus.specs.Law.{Flags, flags_of, byte_at, Law}
 use Rattle.bus.proofs.Sentences.{some_writer, last_load}
 

@@ -2,9 +2,8 @@
 use Rattle.std.proofs.Common.{◌≡◌, ℕ, ◌+◌, ◌<◌, List, [], ◌∷◌, ◌++◌, length, get_or, take, sym, refl, ap, ◌∙◌, subst, arith}
 use Rattle.std.proofs.lemmas.List.{take_more, length-take-le}
 use Rattle.bus.specs.declared.call.Call.{Call}
-use Rattle.bus.specs.declared.call.Answer.{Answer}
 use Rattle.bus.specs.Meaning.{Chip}
-use Rattle.bus.specs.History.{Step, history, Answered, Run, Kept}
+use Rattle.bus.specs.History.{Answer, Step, history, Answered, Run, Kept}
 
 run_push : (xs : List Step) (x : Step) (c m d : Chip) → Run xs c m → Answered x.call x.answer m d → Run (xs ++ (x ∷ [])) c d
 run_push [] x c m d e v = (d, subst (λ (y : Chip). Answered x.call x.answer y d) e v, refl)

@@ -2,7 +2,7 @@
 use Rattle.std.proofs.Common.{◌≡◌, ℕ, suc, ◌+◌, ◌-◌, ◌*◌, ◌/◌, ◌%◌, ◌<◌, ◌≤◌, min, Bool, true, false, cond, not, ◌&&◌, ◌||◌, eqb, ltb, List, [], ◌∷◌, ◌++◌, reverse, length, take, sym, refl, ap, ◌∙◌, inl, inr, ⊎_elim, arith, length-append, length-take}
 use mathlib.Core.List.{reverse_aux}
 use Rattle.std.proofs.lemmas.List.{take_all, take-append-le, reverse-append, length-reverse}
-use Rattle.std.proofs.lemmas.Bool.{cases_Bool, cases_lt, cases_eq, cond-true, cond-false, lt-ltb, le-ltb, eq-eqb, ne_eqb, and_parts, eqb-true}
+use Rattle.std.proofs.lemmas.Bool.{cases_Bool, cases_lt, cases_eq, cond-true, cond-false, lt-ltb, le-ltb, eq-eqb, ne_eqb, and_parts, eqb-true, both_ways}
 use Rattle.std.proofs.lemmas.Bool.Decides.{nat_tests}
 use Rattle.bus.specs.declared.load.Load.{Load}
 use Rattle.bus.specs.declared.kind.Kind.{Kind}
@@ -115,24 +115,21 @@ tells_kind : (n : ℕ) (h : List Load) (m : Bool) → Tests (kind_of n h m) (beg
 unfolding kind_from
 tells_kind n h m = tests (begins coded_code h) (begins (six_code 0x20) h) (begins (six_code 0x40) h && not m) (seventh_is h (at 0 0)) (seventh_is h (at (128 * n - 1) 0xFF))
 
-never : (b : Bool) → b ≡ true → b ≡ false → ⊥
-never b t f = let q : ◌≡◌ {A = ℕ} 0 1 = cc in omega arith
-
 only_coded : (k : Kind) (c f b : Bool) → Tests k c f b → c ≡ true → k ≡ Coded
 only_coded Coded c f b t e = refl
-only_coded Lift c f b t e = absurd (never c e t.0)
-only_coded Low c f b t e = absurd (never c e t.0)
-only_coded High c f b t e = absurd (never c e t.0)
-only_coded Plain c f b t e = absurd (never c e t.0)
+only_coded Lift c f b t e = absurd (both_ways c t.0 e)
+only_coded Low c f b t e = absurd (both_ways c t.0 e)
+only_coded High c f b t e = absurd (both_ways c t.0 e)
+only_coded Plain c f b t e = absurd (both_ways c t.0 e)
 
 only_lift : (k : Kind) (c f b : Bool) → Tests k c f b → c ≡ false → f ≡ true → k ≡ Lift
-only_lift Coded c f b t d e = absurd (never c t d)
+only_lift Coded c f b t d e = absurd (both_ways c d t)
 only_lift Lift c f b t d e = refl
-only_lift Low c f b t d e = absurd (never f e t.1)
-only_lift High c f b t d e = absurd (never f e t.1)
-only_lift Plain c f b t d e = absurd (never f e t.1)
+only_lift Low c f b t d e = absurd (both_ways f t.1 e)
+only_lift High c f b t d e = absurd (both_ways f t.1 e)
+only_lift Plain c f b t d e = absurd (both_ways f t.1 e)
 
--- loads that begin a locking code add_data two sectors
+-- loads that begin a locking code name two sectors
 data_in : DataLoads → List Load → DataLoads
 data_in d [] = d
 data_in d (x ∷ xs) = data_in (add_data d x) xs
@@ -153,7 +150,7 @@ apart x y e f g = omega arith
 lock_names : (xs : List Load) → begins (six_code 0x40) (take 7 xs) ≡ true → data_in none xs ≡ several
 unfolding data_in
 lock_names [] e = absurd (let q : ◌≡◌ {A = ℕ} 0 1 = cc in omega arith)
-lock_names (x ∷ []) e = absurd (never _ (and_parts (matches (at 0x5555 0xAA) x) false e).1 refl)
+lock_names (x ∷ []) e = absurd (both_ways _ refl (and_parts (matches (at 0x5555 0xAA) x) false e).1)
 lock_names (x ∷ (y ∷ zs)) e =
     let p = and_parts (matches (at 0x5555 0xAA) x) _ e in
     let q = and_parts (matches (at 0x2AAA 0x55) y) _ p.1 in
@@ -180,8 +177,8 @@ module _ (h : List Load) (l : Load) (ms : List Load) (hl : length h ≡ min 7 (l
       → data_with old new (length h) (data_by (data_as old ms)) l ≡ data_by (data_as new (l ∷ ms))
   data_step old Low m t k u = refl
   data_step old High m t k u = refl
-  data_step Coded Plain m t k u = absurd (never _ (grows_head coded_code h l t) u.0)
-  data_step Lift Plain m t k u = absurd (never _ (grows_head (six_code 0x20) h l t.1) u.1)
+  data_step Coded Plain m t k u = absurd (both_ways _ u.0 (grows_head coded_code h l t))
+  data_step Lift Plain m t k u = absurd (both_ways _ u.1 (grows_head (six_code 0x20) h l t.1))
   data_step Low Plain m t k u = sym (ap (λ (d : DataLoads). add_data d l) (lk (and_parts (begins (six_code 0x40) h) _ t.2).0))
   data_step High Plain m t k u = sym (ap (λ (d : DataLoads). add_data d l) (lk (and_parts (begins (six_code 0x40) h) _ t.2).0))
   data_step Plain Plain m t k u = refl

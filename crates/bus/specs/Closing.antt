@@ -1,33 +1,13 @@
 -- What a load period comes to when it closes, and which period a gap closes. Assumes nothing.
 use Rattle.std.specs.Prelude.{ℕ, ◌+◌, cond, Some, None, Option, nat_le}
 use Rattle.bus.specs.declared.closed.Closed.{Closed}
-use Rattle.bus.specs.declared.outcome.Outcome.{Outcome}
-use Rattle.bus.specs.declared.outcome.Outcome.TheVariants.{Set, Barred, Empty, Mixed, Locked, Written}
-use Rattle.bus.specs.Meaning.{State, DataLoads, none, one, several, Period, Phase, rest, opened, cycle, Chip}
+use Rattle.bus.specs.Meaning.{State, Period, Phase, rest, opened, cycle, Chip}
 use Rattle.bus.specs.Codes.{kind}
 use Rattle.bus.specs.Outcomes.{outcome_of}
 
-abbrev pub sector_named : DataLoads → Option ℕ
-sector_named none = None
-sector_named (one r page) = Some r
-sector_named several = None
-
--- the sector is told of a locked or a written period
-abbrev pub sector_told : Outcome → DataLoads → Option ℕ
-sector_told Set d = None
-sector_told Barred d = None
-sector_told Empty d = None
-sector_told Mixed d = None
-sector_told Locked d = sector_named d
-sector_told Written d = sector_named d
-
 -- a period that opened in the state s and closes as it stands, on a part of n sectors
 abbrev pub closed_as : ℕ → State → Period → Closed
-closed_as n s p = record {
-  kind = kind n p;
-  outcome = outcome_of n s (kind n p) p.loaded;
-  sector = sector_told (outcome_of n s (kind n p) p.loaded) p.loaded;
-}
+closed_as n s p = record { kind = kind n p; outcome = outcome_of n s (kind n p) p.loaded }
 
 abbrev pub due_in : ℕ → ℕ → Phase → Option Closed
 due_in n gap rest = None

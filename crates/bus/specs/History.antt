@@ -5,12 +5,16 @@ use Rattle.bus.specs.declared.load.Load.{Load}
 use Rattle.bus.specs.declared.identity.Identity.{Identity}
 use Rattle.bus.specs.declared.call.Call.{Call}
 use Rattle.bus.specs.declared.call.Call.TheVariants as Calls
-use Rattle.bus.specs.declared.call.Answer.{Answer}
-use Rattle.bus.specs.declared.call.Answer.TheVariants as Answers
+use Rattle.bus.specs.declared.call.Response.{Response}
+use Rattle.bus.specs.declared.call.Response.TheVariants.{Loaded, Byte, Waited, Identified}
 use Rattle.bus.specs.declared.refusal.BusRefusal.{BusRefusal}
 use Rattle.bus.specs.declared.refusal.BusRefusal.TheVariants.{Outside, Busy, ReservedCode}
 use Rattle.bus.specs.Meaning.{Chip}
 use Rattle.bus.specs.Steps.{Loads, Reads, Waits, Identifies}
+
+-- what a bus call answers: what it gives, or why it is refused
+abbrev pub Answer : Type 0
+Answer = Result Response BusRefusal
 
 -- a call with its answer
 pub record Step : Type 0 where
@@ -25,19 +29,19 @@ history (x ∷ xs) (o ∷ os) = record { call = x; answer = o } ∷ history xs o
 
 -- what the results of load and read are as answers
 abbrev pub load_answer : Option BusRefusal → Answer
-load_answer None = Answers.Loaded
-load_answer (Some e) = Answers.Refused e
+load_answer None = Ok Loaded
+load_answer (Some e) = Err e
 
 abbrev pub read_answer : Result ℕ BusRefusal → Answer
-read_answer (Ok b) = Answers.Byte b
-read_answer (Err e) = Answers.Refused e
+read_answer (Ok b) = Ok (Byte b)
+read_answer (Err e) = Err e
 
 -- the call moves the meaning from c to d by the rules, and this is its answer
 abbrev pub Answered : Call → Answer → Chip → Chip → Type 0
 Answered (Calls.Load l gap) a c d = (refusal : Option BusRefusal) × Loads l gap c d refusal × (a ≡ load_answer refusal)
 Answered (Calls.Read p gap) a c d = (r : Result ℕ BusRefusal) × Reads p gap c d r × (a ≡ read_answer r)
-Answered (Calls.Wait gap) a c d = Waits gap c d × (a ≡ Answers.Waited)
-Answered Calls.Identify a c d = (r : Identity) × Identifies c d r × (a ≡ Answers.Identified r)
+Answered (Calls.Wait gap) a c d = Waits gap c d × (a ≡ Ok Waited)
+Answered Calls.Identify a c d = (r : Identity) × Identifies c d r × (a ≡ Ok (Identified r))
 
 -- every call of the history, one after the other
 abbrev pub Run : List Step → Chip → Chip → Type 0
@@ -50,11 +54,8 @@ Kept R [] s t = t ≡ s
 Kept {S = S} R (x ∷ xs) s t = (m : S) × R s x.call x.answer m × Kept R xs m t
 
 abbrev pub refusal_of : Answer → Option BusRefusal
-refusal_of (Answers.Refused e) = Some e
-refusal_of Answers.Loaded = None
-refusal_of (Answers.Byte b) = None
-refusal_of Answers.Waited = None
-refusal_of (Answers.Identified i) = None
+refusal_of (Ok r) = None
+refusal_of (Err e) = Some e
 
 -- the time that passes in a call with this gap: none where its address lay outside the part
 abbrev pub time_of : Option BusRefusal → ℕ → ℕ

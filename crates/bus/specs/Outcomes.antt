@@ -1,5 +1,5 @@
 -- The result of a load period, and the state that it leaves. Assumes nothing.
-use Rattle.std.specs.Prelude.{ℕ, ◌-◌, ◌*◌, Bool, true, false, cond, ◌&&◌, ◌||◌, List, [], ◌∷◌, Option, nat_le, nat_lt}
+use Rattle.std.specs.Prelude.{ℕ, ◌-◌, ◌*◌, Bool, true, false, cond, ◌&&◌, ◌||◌, List, [], ◌∷◌, Some, None, Option, nat_le, nat_lt}
 use Rattle.std.proofs.Math.Seq.{paste}
 use Rattle.std.specs.Option.{unwrap_or}
 use Rattle.bus.specs.declared.kind.Kind.{Kind}
@@ -19,7 +19,7 @@ is_locked n s r = in_locked n s.low_locked s.high_locked r
 -- the result by the data loads: there are none, or the one sector lies in a locked block or does not, or they name several sectors
 abbrev pub outcome_by_data : ℕ → State → DataLoads → Outcome
 outcome_by_data n s none = Empty
-outcome_by_data n s (one r page) = cond (is_locked n s r) Locked Written
+outcome_by_data n s (one r page) = cond (is_locked n s r) (Locked r) (Written r)
 outcome_by_data n s several = Mixed
 
 -- the result of a period that opened in the state s: only plain periods are barred by protection
@@ -29,6 +29,15 @@ outcome_of n s High d = Set
 outcome_of n s Plain d = cond s.protected Barred (outcome_by_data n s d)
 outcome_of n s Coded d = outcome_by_data n s d
 outcome_of n s Lift d = outcome_by_data n s d
+
+-- the sector is told of a locked or a written period
+abbrev pub sector_told : Outcome → Option ℕ
+sector_told Set = None
+sector_told Barred = None
+sector_told Empty = None
+sector_told Mixed = None
+sector_told (Locked r) = Some r
+sector_told (Written r) = Some r
 
 -- the sector as it is programmed: of each byte the last load, or else what the part chose for it
 abbrev pub programmed : List (Option ℕ) → List ℕ → List ℕ
@@ -51,8 +60,8 @@ bytes_after Set d fill bytes = bytes
 bytes_after Barred d fill bytes = bytes
 bytes_after Empty d fill bytes = bytes
 bytes_after Mixed d fill bytes = bytes
-bytes_after Locked d fill bytes = bytes
-bytes_after Written d fill bytes = bytes_with d fill bytes
+bytes_after (Locked r) d fill bytes = bytes
+bytes_after (Written r) d fill bytes = bytes_with d fill bytes
 
 -- a coded period turns protection on, and a lift turns it off, whatever the result
 abbrev pub protected_after : Kind → Bool → Bool

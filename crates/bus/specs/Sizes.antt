@@ -23,15 +23,15 @@ length-programmed [] (f ∷ fs) = refl
 length-programmed (o ∷ os) (f ∷ fs) = ap suc (length-programmed os fs)
 
 -- what a period with this name writes
-data_bytes : (b : Bool) (d : DataLoads) (fill bytes : List ℕ) → bytes_after (cond b Locked Written) d fill bytes ≡ cond (not b && true) (bytes_with d fill bytes) bytes
-data_bytes true d fill bytes = refl
-data_bytes false d fill bytes = refl
+data_bytes : (b : Bool) (r : ℕ) (d : DataLoads) (fill bytes : List ℕ) → bytes_after (cond b (Locked r) (Written r)) d fill bytes ≡ cond (not b && true) (bytes_with d fill bytes) bytes
+data_bytes true r d fill bytes = refl
+data_bytes false r d fill bytes = refl
 
-plain_bytes : (g b : Bool) (d : DataLoads) (fill bytes : List ℕ) → bytes_after (cond g Barred (cond b Locked Written)) d fill bytes ≡ cond (not b && not g) (bytes_with d fill bytes) bytes
-plain_bytes true true d fill bytes = refl
-plain_bytes true false d fill bytes = refl
-plain_bytes false true d fill bytes = refl
-plain_bytes false false d fill bytes = refl
+plain_bytes : (g b : Bool) (r : ℕ) (d : DataLoads) (fill bytes : List ℕ) → bytes_after (cond g Barred (cond b (Locked r) (Written r))) d fill bytes ≡ cond (not b && not g) (bytes_with d fill bytes) bytes
+plain_bytes true true r d fill bytes = refl
+plain_bytes true false r d fill bytes = refl
+plain_bytes false true r d fill bytes = refl
+plain_bytes false false r d fill bytes = refl
 
 set_bytes : (b : Bool) (x bytes : List ℕ) → bytes ≡ cond (not b && false) x bytes
 set_bytes true x bytes = refl
@@ -40,27 +40,27 @@ set_bytes false x bytes = refl
 pub writes : (n : ℕ) (s : State) (k : Kind) (r : ℕ) (page : List (Option ℕ)) (fill : List ℕ) →
     bytes_after (outcome_of n s k (one r page)) (one r page) fill s.bytes
     ≡ cond (not (is_locked n s r) && permitted k s.protected) (with_sector s.bytes r (programmed page fill)) s.bytes
-writes n s Coded r page fill = data_bytes (is_locked n s r) (one r page) fill s.bytes
-writes n s Lift r page fill = data_bytes (is_locked n s r) (one r page) fill s.bytes
+writes n s Coded r page fill = data_bytes (is_locked n s r) r (one r page) fill s.bytes
+writes n s Lift r page fill = data_bytes (is_locked n s r) r (one r page) fill s.bytes
 writes n s Low r page fill = set_bytes (is_locked n s r) _ s.bytes
 writes n s High r page fill = set_bytes (is_locked n s r) _ s.bytes
-writes n s Plain r page fill = plain_bytes s.protected (is_locked n s r) (one r page) fill s.bytes
+writes n s Plain r page fill = plain_bytes s.protected (is_locked n s r) r (one r page) fill s.bytes
 
 pub still : (o : Outcome) (fill bytes : List ℕ) → bytes_after o none fill bytes ≡ bytes
 still Set fill bytes = refl
 still Barred fill bytes = refl
 still Empty fill bytes = refl
 still Mixed fill bytes = refl
-still Locked fill bytes = refl
-still Written fill bytes = refl
+still (Locked r) fill bytes = refl
+still (Written r) fill bytes = refl
 
 pub still_several : (o : Outcome) (fill bytes : List ℕ) → bytes_after o several fill bytes ≡ bytes
 still_several Set fill bytes = refl
 still_several Barred fill bytes = refl
 still_several Empty fill bytes = refl
 still_several Mixed fill bytes = refl
-still_several Locked fill bytes = refl
-still_several Written fill bytes = refl
+still_several (Locked r) fill bytes = refl
+still_several (Written r) fill bytes = refl
 
 pub settle_length : (n : ℕ) (s : State) (k : Kind) (fill : List ℕ) (d : DataLoads) → length fill ≡ 128 → length s.bytes ≡ 128 * n → reach d ≤ n →
     length (settle_as n fill s k d).bytes ≡ 128 * n

@@ -2,6 +2,7 @@
 use crate::identity::Identity;
 use crate::load::Load;
 use crate::refusal::BusRefusal;
+use std::fmt;
 
 // A bus call. The number is its gap: the microseconds since the call before.
 #[derive(Clone, Copy, PartialEq, Eq, Debug)]
@@ -12,12 +13,38 @@ pub enum Call {
     Identify,
 }
 
-// What a bus call answers.
+impl fmt::Display for Call {
+    fn fmt<W: fmt::Write>(&self, f: &mut fmt::Formatter<W>) -> fmt::Result {
+        match self {
+            Call::Load(Load { address, byte }, gap) => {
+                write!(f, "load {byte:02X} at {address:05X} after {gap}")
+            }
+            Call::Read(address, gap) => write!(f, "read {address:05X} after {gap}"),
+            Call::Wait(gap) => write!(f, "wait {gap}"),
+            Call::Identify => f.write_str("identify"),
+        }
+    }
+}
+
+// What an accepted call gives.
 #[derive(Clone, Copy, PartialEq, Eq, Debug)]
-pub enum Answer {
-    Refused(BusRefusal),
+pub enum Response {
     Loaded,
     Byte(u8),
     Waited,
     Identified(Identity),
 }
+
+impl fmt::Display for Response {
+    fn fmt<W: fmt::Write>(&self, f: &mut fmt::Formatter<W>) -> fmt::Result {
+        match self {
+            Response::Loaded => f.write_str("loaded"),
+            Response::Byte(byte) => write!(f, "{byte:02X}"),
+            Response::Waited => f.write_str("waited"),
+            Response::Identified(identity) => write!(f, "{identity}"),
+        }
+    }
+}
+
+// What a bus call answers.
+pub type Answer = Result<Response, BusRefusal>;

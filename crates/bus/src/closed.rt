@@ -1,4 +1,4 @@
-// What a load period came to when it closed: its kind, its result, and the sector if it was locked or written.
+// What a load period came to when it closed: its kind and its result.
 use crate::kind::Kind;
 use crate::outcome::Outcome;
 
@@ -6,5 +6,4 @@ use crate::outcome::Outcome;
 pub struct Closed {
     pub kind: Kind,
     pub outcome: Outcome,
-    pub sector: Option<u32>,
 }

@@ -34,6 +34,7 @@ impl Kind {
     }
 }
 
+// By hand: a derived Display promises nothing of what it prints.
 impl fmt::Display for Kind {
     ghost output = { λ k. Some (kind_word k) };
 

@@ -1,5 +1,6 @@
-// A lent socket is a socket.
+// A lent socket is a socket: each call is passed on in a line, which no form makes plainer.
 use crate::identity::Identity;
+use crate::load::Load;
 use crate::refusal::BusRefusal;
 use crate::socket::Socket;
 
@@ -14,8 +15,8 @@ impl<'a, S: Socket> Socket for &'a mut S {
         (**self).sectors()
     }
 
-    fn load(&mut self, address: u32, byte: u8, gap: u16) -> Result<(), BusRefusal> {
-        (**self).load(address, byte, gap)
+    fn load(&mut self, load: Load, gap: u16) -> Result<(), BusRefusal> {
+        (**self).load(load, gap)
     }
 
     fn read(&mut self, address: u32, gap: u16) -> Result<u8, BusRefusal> {

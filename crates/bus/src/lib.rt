@@ -4,6 +4,7 @@
 
 pub mod call;
 pub mod closed;
+pub mod codes;
 pub mod identity;
 pub mod kind;
 pub mod lent;

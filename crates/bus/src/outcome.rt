@@ -1,5 +1,6 @@
 // The result of a load period.
 ghost use Rattle.std.specs.Prelude.{◌≡◌, Some};
+ghost use Rattle.bus.specs.Outcomes.{sector_told};
 ghost use Rattle.bus.specs.Words.{outcome_word};
 
 use std::fmt;
@@ -16,9 +17,9 @@ pub enum Outcome {
     // The data loads named two sectors or more.
     Mixed,
     // The sector lies in a locked boot block.
-    Locked,
+    Locked(u32),
     // The sector was programmed.
-    Written,
+    Written(u32),
 }
 
 impl Outcome {
@@ -31,12 +32,23 @@ impl Outcome {
             Outcome::Barred => "barred",
             Outcome::Empty => "empty",
             Outcome::Mixed => "mixed",
-            Outcome::Locked => "locked",
-            Outcome::Written => "written",
+            Outcome::Locked(_) => "locked",
+            Outcome::Written(_) => "written",
+        }
+    }
+
+    // The sector, of a period that a lock kept out or that was written.
+    pub fn sector(self) -> Option<u32>
+        ensures { result ≡ sector_told self }
+    {
+        match self {
+            Outcome::Locked(sector) | Outcome::Written(sector) => Some(sector),
+            _ => None,
         }
     }
 }
 
+// By hand: a derived Display promises nothing of what it prints.
 impl fmt::Display for Outcome {
     ghost output = { λ o. Some (outcome_word o) };
 

@@ -5,11 +5,11 @@ ghost use Rattle.bus.specs.Refusals.{bus_number};
 #[derive(Clone, Copy, PartialEq, Eq, Debug)]
 pub enum BusRefusal {
     // The address lies outside the part.
-    Outside,
+    Outside = 1,
     // A program cycle is running.
-    Busy,
+    Busy = 2,
     // The load would complete the code of identification or of chip erase, which the bus does not let through.
-    ReservedCode,
+    ReservedCode = 3,
 }
 
 impl BusRefusal {
@@ -17,10 +17,6 @@ impl BusRefusal {
     pub fn number(self) -> u8
         ensures { result ≡ bus_number self }
     {
-        match self {
-            BusRefusal::Outside => 1,
-            BusRefusal::Busy => 2,
-            BusRefusal::ReservedCode => 3,
-        }
+        self as u8
     }
 }

@@ -1,46 +1,26 @@
 // Lists of bus calls on any socket.
 ghost use Rattle.std.specs.Prelude.{◌≡◌, length, IfOk, OnErr};
-ghost use Rattle.std.specs.Result.{result_err};
 ghost use Rattle.bus.specs.Meaning as Phase;
-ghost use Rattle.bus.specs.History.{load_answer, read_answer, Answered, Run, Kept, history};
+ghost use Rattle.bus.specs.History.{Answered, Run, Kept, history};
 ghost use Rattle.bus.specs.Law.{Law};
 
-use crate::call::{Answer, Call};
-use crate::refusal::BusRefusal;
+use crate::call::{Answer, Call, Response};
 use crate::socket::Socket;
 use std::alloc::{AllocError, Global};
 
-fn load_answer(res: Result<(), BusRefusal>) -> Answer
-    ensures { result ≡ load_answer (result_err res) }
-{
-    match res {
-        Ok(()) => Answer::Loaded,
-        Err(refusal) => Answer::Refused(refusal),
-    }
-}
-
-fn read_answer(res: Result<u8, BusRefusal>) -> Answer
-    ensures { result ≡ read_answer res }
-{
-    match res {
-        Ok(byte) => Answer::Byte(byte),
-        Err(refusal) => Answer::Refused(refusal),
-    }
-}
-
-// Makes one call, and gives its answer.
+// Makes one call, and gives its answer. The call is a value of a list, and so matched.
 pub fn make_call<S: Socket>(socket: &mut S, call: Call) -> Answer
     ensures answered { Answered call result (S.meaning socket.old) (S.meaning socket.new) }
     ensures own { S.promise socket.old call result socket.new }
 {
     match call {
-        Call::Load(load, gap) => load_answer(socket.load(load.address, load.byte, gap)),
-        Call::Read(address, gap) => read_answer(socket.read(address, gap)),
+        Call::Load(load, gap) => socket.load(load, gap).map(|()| Response::Loaded),
+        Call::Read(address, gap) => socket.read(address, gap).map(Response::Byte),
         Call::Wait(gap) => {
             socket.wait(gap);
-            Answer::Waited
+            Ok(Response::Waited)
         }
-        Call::Identify => Answer::Identified(socket.identify()),
+        Call::Identify => Ok(Response::Identified(socket.identify())),
     }
 }
 
@@ -58,6 +38,8 @@ pub fn replay<S: Socket>(
     ensures law { IfOk result (λ v. (S.meaning socket.old).phase ≡ Phase.rest → Law (history calls.now v.items) (S.meaning socket.old) (S.meaning socket.new)) }
     ensures refused { OnErr result (socket.new ≡ socket.old) }
 {
+    // A loop and no chain (tried): of a socket that the closure of `map` moves nothing is known afterwards, and `collect` would
+    // ask for memory between the calls.
     let mut answers = Vec::with_capacity(heap, calls.len())?;
     for call in calls {
         answers.push_reserved(make_call(socket, *call));

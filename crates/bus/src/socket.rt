@@ -2,16 +2,15 @@
 ghost use Rattle.std.specs.Result.{result_err};
 ghost use Rattle.std.specs.Prelude.{◌≡◌};
 ghost use Rattle.bus.specs.Meaning.{Chip};
-ghost use Rattle.bus.specs.Codes.{at};
 ghost use Rattle.bus.specs.Steps.{Loads, Reads, Waits, Identifies};
 ghost use Rattle.bus.specs.Lawful.{Lawful};
-ghost use Rattle.bus.specs.History.{load_answer, read_answer};
+ghost use Rattle.bus.specs.History.{Answer, load_answer, read_answer};
 ghost use Rattle.bus.specs.declared.call.Call.{Call};
 ghost use Rattle.bus.specs.declared.call.Call.TheVariants as Calls;
-ghost use Rattle.bus.specs.declared.call.Answer.{Answer};
-ghost use Rattle.bus.specs.declared.call.Answer.TheVariants as Answers;
+ghost use Rattle.bus.specs.declared.call.Response.TheVariants.{Waited, Identified};
 
 use crate::identity::Identity;
+use crate::load::Load;
 use crate::refusal::BusRefusal;
 
 // A gap is the microseconds since the call before; it passes before the call does anything else.
@@ -27,9 +26,9 @@ pub trait Socket {
     fn sectors(&self) -> u32
         ensures { result ≡ (meaning self.now).sectors };
 
-    fn load(&mut self, address: u32, byte: u8, gap: u16) -> Result<(), BusRefusal>
-        ensures moves { Loads (at address byte) gap (meaning self.old) (meaning self.new) (result_err result) }
-        ensures own { promise self.old (Calls.Load (at address byte) gap) (load_answer (result_err result)) self.new };
+    fn load(&mut self, load: Load, gap: u16) -> Result<(), BusRefusal>
+        ensures moves { Loads load gap (meaning self.old) (meaning self.new) (result_err result) }
+        ensures own { promise self.old (Calls.Load load gap) (load_answer (result_err result)) self.new };
 
     fn read(&mut self, address: u32, gap: u16) -> Result<u8, BusRefusal>
         ensures moves { Reads address gap (meaning self.old) (meaning self.new) result }
@@ -37,9 +36,9 @@ pub trait Socket {
 
     fn wait(&mut self, gap: u16)
         ensures moves { Waits gap (meaning self.old) (meaning self.new) }
-        ensures own { promise self.old (Calls.Wait gap) Answers.Waited self.new };
+        ensures own { promise self.old (Calls.Wait gap) (Ok Waited) self.new };
 
     fn identify(&mut self) -> Identity
         ensures moves { Identifies (meaning self.old) (meaning self.new) result }
-        ensures own { promise self.old Calls.Identify (Answers.Identified result) self.new };
+        ensures own { promise self.old Calls.Identify (Ok (Identified result)) self.new };
 }

@@ -1,12 +1,11 @@
 -- Worked cases at the edges of the rules: what the definitions compute, and what is expected. Assumes nothing.
-use Rattle.std.specs.Prelude.{ℕ, ◌*◌, Bool, cond, List, [], ◌∷◌, ◌++◌, map, length, take, drop, replicate, codes}
+use Rattle.std.specs.Prelude.{ℕ, ◌*◌, Bool, cond, List, [], ◌∷◌, ◌++◌, map, length, take, drop, replicate, Ok, Err, codes}
 use Rattle.bus.specs.declared.call.Call.{Call}
 use Rattle.bus.specs.declared.call.Call.TheVariants as Calls
-use Rattle.bus.specs.declared.call.Answer.{Answer}
-use Rattle.bus.specs.declared.call.Answer.TheVariants as Answers
 use Rattle.bus.specs.Meaning.{Phase, rest, opened, cycle, Chip}
 use Rattle.bus.specs.Codes.{at, kind}
 use Rattle.bus.specs.Outcomes.{outcome_of}
+use Rattle.bus.specs.History.{Answer}
 use Rattle.bus.specs.Refusals.{bus_number}
 use Rattle.bus.specs.Words.{outcome_word}
 use Rattle.kinds.specs.Style.{steady_style, steady_times}
@@ -27,11 +26,8 @@ load a b gap = Calls.Load (at a b) gap
 
 -- an answer as a number: 0 accepted, or the refusal's number
 abbrev number : Answer → ℕ
-number (Answers.Refused e) = bus_number e
-number Answers.Loaded = 0
-number (Answers.Byte b) = 0
-number Answers.Waited = 0
-number (Answers.Identified i) = 0
+number (Ok r) = 0
+number (Err e) = bus_number e
 
 -- the answers of a steady part with this cycle time
 abbrev answers : ℕ → Chip → List Call → List ℕ

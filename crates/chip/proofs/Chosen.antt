@@ -6,9 +6,7 @@ use Rattle.std.proofs.lemmas.List.Elements.{All-from_get_or}
 use Rattle.bus.specs.declared.refusal.BusRefusal.{BusRefusal}
 use Rattle.bus.specs.declared.load.Load.{Load}
 use Rattle.bus.specs.declared.call.Call.TheVariants as Calls
-use Rattle.bus.specs.declared.call.Answer.{Answer}
-use Rattle.bus.specs.declared.call.Answer.TheVariants as Answers
-use Rattle.chip.specs.declared.phase.Reply.TheVariants.{Done, Byte, Refused}
+use Rattle.bus.specs.declared.call.Response.TheVariants.{Byte}
 use Rattle.bus.specs.Meaning.{Chip, Phase, rest, opened, cycle}
 use Rattle.bus.specs.Time.{passed, is_rest}
 use Rattle.bus.specs.Choices.{Choice}
@@ -16,10 +14,11 @@ use Rattle.bus.specs.Status.{status, read_byte, after_read}
 use Rattle.bus.specs.Refusals.{load_refusal}
 use Rattle.bus.specs.Steps.{Reads, Loads, Waits}
 use Rattle.kinds.specs.Style.{Style, Timely}
-use Rattle.bus.specs.History.{load_answer}
+use Rattle.bus.specs.History.{Answer, load_answer}
 use Rattle.array.specs.Filling.{fill_sector}
 use Rattle.chip.specs.Exact.{fill_at, loaded_by, status_by, byte_by, closes, Onward, Exactly}
-use Rattle.chip.specs.Meaning.{reply_to}
+use Rattle.std.specs.Result.{result_err}
+use Rattle.chip.specs.Meaning.{Reply, reply_to}
 use Rattle.array.specs.Sizes.{length-fill}
 use Rattle.array.proofs.Sectors.{get_or-fill}
 
@@ -99,23 +98,13 @@ module _ (y : Style) (ts : ℕ → ℕ) (timely : Timely ts) where
           rw (lt-ltb l.address (128 * c.sectors) h)
           (subst (λ (x : Chip). d ≡ loaded_by y l x) p e, subst (λ (x : Chip). a ≡ load_answer (load_refusal x.phase l)) p f, o)
 
-      pub own_read : (k : ℕ) (d : Chip) (b : ℕ) → k < 128 * c.sectors → d ≡ after_read m → b ≡ byte_by y m k → Exactly y (Calls.Read k g) (Answers.Byte b) ts vs c d
+      pub own_read : (k : ℕ) (d : Chip) (b : ℕ) → k < 128 * c.sectors → d ≡ after_read m → b ≡ byte_by y m k → Exactly y (Calls.Read k g) (Ok (Byte b)) ts vs c d
       own_read k d b h e f =
           let o = onward in
           rw (lt-ltb k (128 * c.sectors) h)
-          (subst (λ (x : Chip). d ≡ after_read x) p e, subst (λ (x : Chip). Answers.Byte b ≡ Answers.Byte (byte_by y x k)) p (ap (λ (j : ℕ). Answers.Byte j) f), o)
+          (subst (λ (x : Chip). d ≡ after_read x) p e, subst (λ (x : Chip). ◌≡◌ {A = Answer} (Ok (Byte b)) (Ok (Byte (byte_by y x k)))) p (ap (λ (j : ℕ). Ok (Byte j)) f), o)
 
-pub is_byte : (a b : ℕ) → Byte a ≡ Byte b → a ≡ b
-is_byte a b e = cc
-
-pub refused_is : (o : Option BusRefusal) (e : BusRefusal) → Refused e ≡ reply_to o → Some e ≡ o
-refused_is None e h = let z : ◌≡◌ {A = ℕ} 0 1 = cc in absurd (omega arith)
-refused_is (Some x) e h = cc
-
-pub done_is : (o : Option BusRefusal) → Done ≡ reply_to o → None ≡ o
-done_is None h = refl
-done_is (Some x) h = let z : ◌≡◌ {A = ℕ} 0 1 = cc in absurd (omega arith)
-
-pub no_byte : (o : Option BusRefusal) (b : ℕ) → Byte b ≡ reply_to o → ⊥
-no_byte None b h = let z : ◌≡◌ {A = ℕ} 0 1 = cc in omega arith
-no_byte (Some x) b h = let z : ◌≡◌ {A = ℕ} 0 1 = cc in omega arith
+-- a load is refused as it was by what it came to
+pub refused_by : (o : Option BusRefusal) (r : Reply) → r ≡ reply_to o → result_err r ≡ o
+refused_by None r e = ap result_err e
+refused_by (Some x) r e = ap result_err e

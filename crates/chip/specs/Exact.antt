@@ -1,9 +1,8 @@
 -- What each bus call does to a part of a given style: the rules with the part's choices put in. Assumes nothing.
-use Rattle.std.specs.Prelude.{◌≡◌, ℕ, ◌+◌, ◌-◌, ◌*◌, ◌/◌, Bool, true, false, cond, not, ◌&&◌, List, nat_lt, slice_index}
+use Rattle.std.specs.Prelude.{◌≡◌, ℕ, ◌+◌, ◌-◌, ◌*◌, ◌/◌, Bool, true, false, cond, not, ◌&&◌, List, Ok, Err, nat_lt, slice_index}
 use Rattle.bus.specs.declared.call.Call.{Call}
 use Rattle.bus.specs.declared.call.Call.TheVariants as Calls
-use Rattle.bus.specs.declared.call.Answer.{Answer}
-use Rattle.bus.specs.declared.call.Answer.TheVariants as Answers
+use Rattle.bus.specs.declared.call.Response.TheVariants.{Byte, Waited, Identified}
 use Rattle.bus.specs.declared.refusal.BusRefusal.TheVariants.{Outside}
 use Rattle.bus.specs.declared.load.Load.{Load}
 use Rattle.bus.specs.Meaning.{none, Phase, rest, opened, cycle, Chip, with_phase}
@@ -13,7 +12,7 @@ use Rattle.bus.specs.Status.{bit, after_read}
 use Rattle.bus.specs.Identification.{identity}
 use Rattle.bus.specs.Refusals.{inside, load_refusal}
 use Rattle.bus.specs.Steps.{loaded}
-use Rattle.bus.specs.History.{load_answer}
+use Rattle.bus.specs.History.{Answer, load_answer}
 use Rattle.kinds.specs.Style.{Style}
 use Rattle.array.specs.Filling.{fill_for}
 
@@ -54,10 +53,10 @@ after_call y t Calls.Identify c = with_phase c rest
 
 abbrev pub answer_of : Style → ℕ → Call → Chip → Answer
 answer_of y t (Calls.Load l gap) c =
-    cond (inside c l.address) (load_answer (load_refusal (passed t gap c).phase l)) (Answers.Refused Outside)
-answer_of y t (Calls.Read a gap) c = cond (inside c a) (Answers.Byte (byte_by y (passed t gap c) a)) (Answers.Refused Outside)
-answer_of y t (Calls.Wait gap) c = Answers.Waited
-answer_of y t Calls.Identify c = Answers.Identified (identity c)
+    cond (inside c l.address) (load_answer (load_refusal (passed t gap c).phase l)) (Err Outside)
+answer_of y t (Calls.Read a gap) c = cond (inside c a) (Ok (Byte (byte_by y (passed t gap c) a))) (Err Outside)
+answer_of y t (Calls.Wait gap) c = Ok Waited
+answer_of y t Calls.Identify c = Ok (Identified (identity c))
 
 abbrev pub closes_in : Call → Chip → Bool
 closes_in (Calls.Load l gap) c = inside c l.address && closes gap c.phase

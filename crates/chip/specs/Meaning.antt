@@ -1,22 +1,21 @@
 -- What a part means. Assumes nothing.
-use Rattle.std.specs.Prelude.{◌≡◌, ℕ, ◌-◌, ◌*◌, ◌^◌, ◌<◌, min, Bool, cond, not, Some, None, Option, nat_lt}
+use Rattle.std.specs.Prelude.{◌≡◌, ℕ, ◌-◌, ◌*◌, ◌^◌, ◌<◌, min, Bool, false, cond, not, Some, None, Ok, Err, Option, Result, nat_lt}
 use Rattle.chip.specs.declared.phase.Phase.{Phase as Stage}
 use Rattle.chip.specs.declared.phase.Phase.TheVariants.{Rest, Open, Cycle}
 use Rattle.chip.specs.declared.phase.Event.{Event}
 use Rattle.chip.specs.declared.phase.Event.TheVariants.{Gap, Load, Read, Identify}
-use Rattle.chip.specs.declared.phase.Reply.{Reply}
-use Rattle.chip.specs.declared.phase.Reply.TheVariants.{Done, Byte, Refused}
 use Rattle.chip.specs.declared.part.Part.{Part}
 use Rattle.bus.specs.declared.load.Load as Bus
 use Rattle.bus.specs.declared.refusal.BusRefusal.{BusRefusal}
 use Rattle.bus.specs.declared.call.Call.{Call}
-use Rattle.bus.specs.declared.call.Answer.{Answer}
+use Rattle.bus.specs.declared.refusal.BusRefusal.TheVariants.{Outside}
 use Rattle.bus.specs.Meaning.{State, Period, Phase, rest, opened, cycle, Chip, with_phase}
 use Rattle.bus.specs.Codes.{at}
 use Rattle.bus.specs.Periods.{extend}
 use Rattle.bus.specs.Time.{running, passed}
 use Rattle.bus.specs.Status.{after_read}
-use Rattle.bus.specs.Refusals.{load_refusal}
+use Rattle.bus.specs.Refusals.{inside, load_refusal}
+use Rattle.bus.specs.History.{Answer}
 use Rattle.period.specs.Meaning.{period_of}
 use Rattle.kinds.specs.Style.{Style, nearest}
 use Rattle.array.specs.Meaning as array
@@ -67,6 +66,10 @@ abbrev pub meant : {B : Type 0} → Style → Part B → Chip
 meant y p =
     chip_with (frame p) (settled_at y p.phase (count_of p) (stored p) (period_of (count_of p) p.period)) (phase_at p.phase (stored p) (period_of (count_of p) p.period))
 
+-- the part now means this, and its behaviour is as it was
+abbrev pub MovesTo : {B : Type 0} → Style → Part B → Part B → Chip → Type 0
+MovesTo y p q c = (meant y q ≡ c) × (q.behaviour ≡ p.behaviour)
+
 -- the address lies inside the part
 abbrev pub Within : Event → ℕ → Type 0
 Within (Gap g) n = Unit {0}
@@ -74,16 +77,25 @@ Within (Load l) n = l.address < 128 * n
 Within (Read a) n = a < 128 * n
 Within Identify n = Unit {0}
 
+-- what an event gets: a read its byte, and nothing else anything
+abbrev pub Reply : Type 0
+Reply = Result (Option ℕ) BusRefusal
+
 abbrev pub reply_to : Option BusRefusal → Reply
-reply_to None = Done
-reply_to (Some e) = Refused e
+reply_to None = Ok None
+reply_to (Some e) = Err e
 
 -- what an event does: to the part's meaning, to its cycle times to come, and the reply
 abbrev pub Stepped : Style → Event → (ℕ → ℕ) → (ℕ → ℕ) → Chip → Chip → Reply → Type 0
-Stepped y (Gap g) ts us c d r = (d ≡ passed (ts 0) g c) × (r ≡ Done) × Onward (closes g c.phase) ts us
+Stepped y (Gap g) ts us c d r = (d ≡ passed (ts 0) g c) × (r ≡ Ok None) × Onward (closes g c.phase) ts us
 Stepped y (Load l) ts us c d r = (d ≡ loaded_by y l c) × (r ≡ reply_to (load_refusal c.phase l)) × (us ≡ ts)
-Stepped y (Read a) ts us c d r = (d ≡ after_read c) × (r ≡ Byte (byte_by y c a)) × (us ≡ ts)
-Stepped y Identify ts us c d r = (d ≡ with_phase c rest) × (r ≡ Done) × Onward (is_open c.phase) ts us
+Stepped y (Read a) ts us c d r = (d ≡ after_read c) × (r ≡ Ok (Some (byte_by y c a))) × (us ≡ ts)
+Stepped y Identify ts us c d r = (d ≡ with_phase c rest) × (r ≡ Ok None) × Onward (is_open c.phase) ts us
+
+-- the gap has passed, if the address lies inside the part; else nothing has happened
+abbrev pub Reached : Style → ℕ → ℕ → (ℕ → ℕ) → (ℕ → ℕ) → Chip → Chip → Option BusRefusal → Type 0
+Reached y a g ts us c d None = (a < 128 * c.sectors) × (d ≡ passed (ts 0) g c) × Onward (closes g c.phase) ts us
+Reached y a g ts us c d (Some e) = (e ≡ Outside) × (inside c a ≡ false) × (d ≡ c) × (us ≡ ts)
 
 -- the part once its open period has grown to this age, its next cycle taking this time
 abbrev pub grown : {B : Type 0} → Style → Part B → ℕ → ℕ → Chip

@@ -1,5 +1,4 @@
-// The part: the rules, coded once over what a behaviour chooses. No ghost field, so that a part can be a type argument; every value
-// of the fields means some part. Its methods stand in modules below, since their contracts cite definitions over it.
+// The part: the rules, coded once over what a behaviour chooses.
 use crate::phase::Phase;
 use array::flash::FlashArray;
 use bus::load::Load;
@@ -10,7 +9,8 @@ mod making;
 pub mod socket;
 mod steps;
 
-// The array holds the state as it was before the open period, which takes effect when it closes.
+// The array holds the state as it was before the open period, which takes effect when it closes. The period stands beside the phase
+// and not in it: a phase that held it could not be matched by value, together with the event.
 #[derive(Drop)]
 pub struct Part<'a, B: Behaviour + Drop> {
     array: FlashArray<'a>,

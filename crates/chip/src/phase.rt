@@ -1,14 +1,14 @@
 // Where a part stands in time, and what can happen to it.
 use bus::load::Load;
-use bus::refusal::BusRefusal;
 
 // At rest, in an open period of this age, or so far into a cycle of this time. An age past 150 means 150, and a cycle time means the
-// nearest of 1 to 10,000, which the elapsed time stays below.
+// nearest of 1 to 10,000, which the elapsed time stays below: no ghost field bounds them (tried: a type argument that holds a
+// `&mut`, as a part does, may hold no struct with a ghost field).
 #[derive(Clone, Copy)]
 pub enum Phase {
     Rest,
     Open(u8),
-    Cycle(u16, u16),
+    Cycle { elapsed: u16, time: u16 },
 }
 
 // What comes over the bus: time, a load, a read, or identification.
@@ -18,12 +18,4 @@ pub enum Event {
     Load(Load),
     Read(u32),
     Identify,
-}
-
-// What the part makes of an event.
-#[derive(Clone, Copy)]
-pub enum Reply {
-    Done,
-    Byte(u8),
-    Refused(BusRefusal),
 }

@@ -1,38 +1,14 @@
 -- Reads at rest. Assumes nothing.
-use Rattle.std.proofs.Common.{◌≡◌, ℕ, ◌+◌, ◌-◌, ◌*◌, ◌^◌, ◌<◌, ◌≤◌, List, length, get_or, drop, set, Ok, Err, sym, ap, ◌∙◌, subst, zero-add, arith}
+use Rattle.std.proofs.Common.{◌≡◌, ℕ, zero, suc, ◌+◌, ◌-◌, ◌*◌, ◌^◌, ◌<◌, ◌≤◌, List, [], ◌∷◌, length, get_or, drop, set, sym, refl, ap, ◌∙◌, subst, zero-add, arith}
 use lib.Seq.{paste}
-use Rattle.std.proofs.lemmas.List.{get_or-drop, length-drop}
+use Rattle.std.proofs.lemmas.List.{append-nil, drop_all, get_or-drop, length-drop}
 use Rattle.std.proofs.lemmas.List.Edits.{paste_more}
-use Rattle.bus.specs.declared.refusal.BusRefusal.{BusRefusal}
-use Rattle.bus.specs.Meaning.{Chip, Phase, rest, with_phase}
-use Rattle.bus.specs.Status.{after_read, read_byte}
-use Rattle.bus.specs.Steps.{Reads}
-use Rattle.bus.specs.Time.{passed}
-use Rattle.settling.proofs.Polling.{read_in, same_self, same_trans}
-use Rattle.driver.specs.Loading.{Quiet, Gave}
-
-pub gave_ok : (c d : Chip) (a b : ℕ) → c.phase ≡ rest → a < 128 * c.sectors → Reads a 1 c d (Ok b) → Gave c d a b
-gave_ok c d a b e h r =
-    let p = read_in a 1 c d (Ok b) h r in
-    let w = p.0 in
-    let q : d ≡ after_read (with_phase c rest) = subst (λ (f : Phase). d ≡ after_read (passed w.time 1 (with_phase c f))) e p.1 in
-    let u : b ≡ read_byte w (passed w.time 1 c) a = let o = p.2 in cc in
-    let v : b ≡ get_or c.settled.bytes a 0 = subst (λ (f : Phase). b ≡ read_byte w (passed w.time 1 (with_phase c f)) a) e u in
-    record {
-      quiet = record {
-        same = record { sectors = ap (λ (x : Chip). x.sectors) q; device = ap (λ (x : Chip). x.device) q; settled = ap (λ (x : Chip). x.settled) q; last = ap (λ (x : Chip). x.last) q };
-        rests = ap (λ (x : Chip). x.phase) q;
-        reads = ap (λ (x : Chip). x.reads) q;
-      };
-      byte = v;
-    }
-
-pub gave_err : (c d : Chip) (a : ℕ) (e : BusRefusal) → a < 128 * c.sectors → Reads a 1 c d (Err e) → ⊥
-gave_err c d a e h r =
-    let p = read_in a 1 c d (Err e) h r in
-    let q = p.2 in
-    let z : ◌≡◌ {A = ℕ} 0 1 = cc in
-    omega arith
+use Rattle.bus.specs.Meaning.{State, Chip, rest}
+use Rattle.bus.specs.Lawful.{Lawful}
+use Rattle.memory.specs.Memory.{row_of, as_bytes}
+use Rattle.memory.proofs.MemoryLaws.{as_bytes_same}
+use Rattle.settling.proofs.Polling.{same_self, same_trans}
+use Rattle.driver.specs.Loading.{Present, Quiet, Gave}
 
 pub quiet_none : (c : Chip) → c.phase ≡ rest → c.reads ≤ 2 ^ 64 - 1 → Quiet c c 0
 quiet_none c e h = record { same = same_self c; rests = e; reads = omega arith }
@@ -52,3 +28,39 @@ place_more bytes place now r i x e h k v =
     let u : x ≡ get_or m i 0 = v ∙ sym (get_or-drop (128 * r) bytes i 0) in
     let n : i < length m = simp length-drop (omega arith) in
     rw (e, u) (subst (λ (j : ℕ). set (paste place 0 m i) j (get_or m i 0) ≡ paste place 0 m (i + 1)) (zero-add i) (paste_more place 0 m i 0 (omega arith) n))
+
+small_more : (xs : List ℕ) (i x k : ℕ) → ((j : ℕ) → get_or xs j 0 < 256) → x < 256 → get_or (set xs i x) k 0 < 256
+small_more [] i x k h s = h k
+small_more (y ∷ ys) zero x zero h s = s
+small_more (y ∷ ys) zero x (suc k) h s = h (suc k)
+small_more (y ∷ ys) (suc i) x zero h s = h 0
+small_more (y ∷ ys) (suc i) x (suc k) h s = small_more ys i x k (λ j. h (suc j)) s
+
+-- what the loop of `read_sector` keeps: i bytes of sector r are in the page
+pub record Fetched (c d : Chip) (r i : ℕ) (before now : List ℕ) : Type 0 where
+  pub quiet : Quiet c d i
+  pub filled : now ≡ paste before 0 (drop (128 * r) c.settled.bytes) i
+  pub small : (k : ℕ) → get_or now k 0 < 256
+
+pub fetched_none : (c : Chip) (r : ℕ) (p : List ℕ) → Lawful c → Present c r → ((k : ℕ) → get_or p k 0 < 256) → Fetched c c r 0 p p
+fetched_none c r p l h s = record { quiet = quiet_none c h.ready.rests l.counts; filled = refl; small = s }
+
+pub fetched_more : (c d e : Chip) (r i x : ℕ) (p now : List ℕ) → Lawful c → Present c r → length p ≡ 128 → i < 128 → Fetched c d r i p now → Gave d e (128 * r + i) x → x < 256 →
+    Fetched c e r (i + 1) p (set now i x)
+fetched_more c d e r i x p now l h w n f g s =
+    let v = g.byte ∙ ap (λ (s : State). get_or s.bytes (128 * r + i) 0) f.quiet.same.settled in
+    let size = l.sized in
+    record {
+      quiet = quiet_more c d e i 1 f.quiet g.quiet;
+      filled = place_more c.settled.bytes p now r i x f.filled (omega arith) (omega arith) v;
+      small = λ k. small_more now i x k f.small s;
+    }
+
+pub fetched_all : (c d : Chip) (r i : ℕ) (p now : List ℕ) → length p ≡ 128 → i ≡ 128 → Fetched c d r i p now →
+    Quiet c d 128 × (now ≡ row_of c.settled.bytes r) × (now ≡ as_bytes (row_of c.settled.bytes r))
+fetched_all c d r i p now w e f =
+    let row = row_of c.settled.bytes r in
+    let none : drop 128 p ≡ [] = drop_all 128 p (omega arith) in
+    let whole : now ≡ row = f.filled ∙ rw (e, none) (append-nil row) in
+    let shown : as_bytes row ≡ row = as_bytes_same row (λ i. rw whole at (f.small i)) in
+    (rw e at f.quiet, whole, whole ∙ sym shown)

@@ -2,7 +2,7 @@
 use Rattle.std.proofs.Common.{◌≡◌, ℕ, zero, suc, ◌+◌, ◌*◌, ◌/◌, ◌%◌, ◌<◌, ◌≤◌, Bool, true, false, cond, eqb, ltb, List, [], ◌∷◌, ◌++◌, map, length, get_or, take, set, Some, None, MatchBool, Option, sym, refl, ap, ◌∙◌, subst, inl, inr, zero-add, arith}
 use lib.Seq.{paste}
 use Rattle.std.proofs.lemmas.List.Edits.{paste_more, paste_none}
-use Rattle.std.proofs.lemmas.List.{length-map, append-nil, take_all}
+use Rattle.std.proofs.lemmas.List.{length-map, append-nil, take_all, take_more}
 use Rattle.std.proofs.lemmas.Bool.{lt-ltb, cond-true, cond-false, eq-eqb, cases_eq, ne_eqb, and_left, and_right, or_from}
 use Rattle.bus.specs.declared.load.Load.{Load}
 use Rattle.bus.specs.declared.outcome.Outcome.TheVariants.{Locked, Written}
@@ -11,10 +11,10 @@ use Rattle.bus.specs.declared.refusal.BusRefusal.TheVariants.{Outside}
 use Rattle.bus.specs.Codes.{at, begins, exactly, matches, unlock, unlock_twice, completes_reserved, kind_of}
 use Rattle.bus.specs.Meaning.{State, Chip, Phase, rest, opened, cycle, Period, DataLoads, none, one, several, with_phase}
 use Rattle.bus.specs.Outcomes.{settle, programmed, is_locked, bytes_after, with_sector, outcome_by_data, protected_after}
-use Rattle.bus.specs.Periods.{extend, fresh, blank, add_data, data_with, more_with}
+use Rattle.bus.specs.Periods.{extend, fresh, blank, add_data, data_with, head_with, more_with}
 use Rattle.bus.specs.Steps.{Loads, LoadsInside, loaded, loaded_in, with_load}
 use Rattle.bus.specs.Time.{passed}
-use Rattle.driver.specs.Loading.{Puts, Opened, Code, coded, lift, code_loads, code_kind, code_period, Coding, first_of, Sent}
+use Rattle.driver.specs.Loading.{Ready, Puts, Following, Opening, extend_all, Opened, Code, coded, lift, code_loads, code_kind, code_period, Coding, first_of, Sent}
 
 pub puts : (l : Load) (c d : Chip) (o : Option BusRefusal) → l.address < 128 * c.sectors → Loads l 1 c d o → Puts l c d
 puts l c d o h p =
@@ -51,6 +51,40 @@ opened_more l c d d' p o k (w, h) =
       settled = ap (λ (x : Chip). x.settled) q' ∙ ap (λ (n : ℕ). settle n w.fill c.settled (extend n p l)) o.sectors;
     }
 
+-- one load after the other
+abbrev PutsAll : List Load → Chip → Chip → Type 0
+PutsAll [] c d = d ≡ c
+PutsAll (l ∷ ls) c d = (m : Chip) × Puts l c m × PutsAll ls m d
+
+put_more : (xs : List Load) (l : Load) (c d e : Chip) → PutsAll xs c d → Puts l d e → PutsAll (xs ++ l ∷ []) c e
+put_more [] l c d e p q = (e, subst (λ (x : Chip). Puts l x e) p q, refl)
+put_more (x ∷ xs) l c d e (m, h, p) q = (m, h, put_more xs l m d e p q)
+
+-- what the loop of `open` keeps
+pub record Loaded (ls : List Load) (i : ℕ) (c d : Chip) : Type 0 where
+  pub sectors : d.sectors ≡ c.sectors
+  pub puts : PutsAll (take i ls) c d
+
+pub loaded_more : (ls : List Load) (i : ℕ) (y : Load) (c d e : Chip) → Loaded ls i c d → i < length ls → Puts (get_or ls i y) d e → e.sectors ≡ d.sectors → Loaded ls (i + 1) c e
+loaded_more ls i y c d e k h p s = record { sectors = s ∙ k.sectors; puts = rw (take_more ls i y h) (put_more (take i ls) (get_or ls i y) c d e k.puts p) }
+
+-- a load of a code lies in every part that has sectors
+pub inside_code : (head ls : List Load) (i : ℕ) (y : Load) → Following head ls → i < length ls → (get_or ls i y).address < 32768
+inside_code head [] i y f h = absurd (omega arith)
+inside_code head (x ∷ xs) zero y f h = f.0
+inside_code head (x ∷ xs) (suc i) y f h = inside_code (head_with head x) xs i y f.2 (omega arith)
+
+opened_all : (ls : List Load) (p : Period) (c d e : Chip) → Opened c d p → Following p.head ls → PutsAll ls d e → Opened c e (extend_all c.sectors p ls)
+opened_all [] p c d e o f h = subst (λ (x : Chip). Opened c x p) (sym h) o
+opened_all (l ∷ ls) p c d e o f (m, h, k) = opened_all ls (extend c.sectors p l) c m e (opened_more l c d m p o f.1 h) f.2 k
+
+opened_whole : (ls : List Load) (c e : Chip) → Ready c → Opening ls → PutsAll ls c e → Opened c e (extend_all c.sectors fresh ls)
+opened_whole [] c e r o k = absurd (omega (arith, o.0))
+opened_whole (l ∷ ls) c e r o (m, h, k) = opened_all ls (extend c.sectors fresh l) c m e (opened_first l c m r.rests h) o.1.2 k
+
+pub opened_code : (ls : List Load) (i : ℕ) (c e : Chip) → Ready c → Opening ls → Loaded ls i c e → length ls ≤ i → Opened c e (extend_all c.sectors fresh ls)
+opened_code ls i c e r o k h = opened_whole ls c e r o (rw (take_all i ls h) at k.puts)
+
 -- no load after such a code completes a reserved one
 not_reserved : (k : Code) (ls : List Load) (l : Load) → completes_reserved (code_loads k ++ ls) l ≡ false
 not_reserved coded ls l =
@@ -85,6 +119,11 @@ extend_code k n ls more x l =
     let hs = cond (ltb (length h) 7) (ls ++ (l ∷ [])) ls in
     ap (λ (y : List Load). record { head = y; more = m; loaded = data_with (kind_of n h more) (kind_of n y m) (length h) x l }) (head_grows k (ltb (length h) 7) ls l)
     ∙ ap (code_period k hs m) (data_on k n ls hs more m x l)
+
+-- the code alone
+pub coding_none : (k : Code) (ls : List Load) (c d : Chip) → ls ≡ code_loads k → Opened c d (extend_all c.sectors fresh ls) → Coding k c d none
+coding_none coded ls c d e o = ([], false, rw e at o)
+coding_none lift ls c d e o = ([], false, rw e at o)
 
 -- one data load more
 pub coding_more : (k : Code) (l : Load) (c d d' : Chip) (x : DataLoads) → Coding k c d x → Puts l d d' → Coding k c d' (add_data x l)
@@ -164,6 +203,6 @@ wrote k c d r bytes w f (ls, more, o) =
       device = o.device;
       reads = o.reads;
       settled = o.settled ∙ settle_as k c.sectors o.fill c.settled ls more (first_of r bytes 128)
-          ∙ ap (λ (b : Bool). record { bytes = bytes_after (cond b Locked Written) (first_of r bytes 128) o.fill c.settled.bytes; protected = g; low_locked = c.settled.low_locked; high_locked = c.settled.high_locked }) f
+          ∙ ap (λ (b : Bool). record { bytes = bytes_after (cond b (Locked r) (Written r)) (first_of r bytes 128) o.fill c.settled.bytes; protected = g; low_locked = c.settled.low_locked; high_locked = c.settled.high_locked }) f
           ∙ ap (λ (b : List ℕ). record { bytes = with_sector c.settled.bytes r b; protected = g; low_locked = c.settled.low_locked; high_locked = c.settled.high_locked }) lay;
     }

@@ -1,20 +1,32 @@
 -- Reads and loads on a part at rest, as the driver makes them. Assumes nothing.
-use Rattle.std.specs.Prelude.{◌≡◌, ℕ, Bool, cond, List, [], ◌∷◌, ◌++◌, map, length, Some, ◌==◌, slice_index}
+use Rattle.std.specs.Prelude.{◌≡◌, ℕ, ◌<◌, ◌≤◌, Bool, false, cond, List, [], ◌∷◌, ◌++◌, map, length, Some, ◌==◌, slice_index}
 use Rattle.std.proofs.Math.Seq.{paste}
 use Rattle.bus.specs.declared.load.Load.{Load}
 use Rattle.bus.specs.declared.kind.Kind.{Kind}
 use Rattle.bus.specs.declared.kind.Kind.TheVariants.{Coded, Lift}
 use Rattle.bus.specs.Choices.{Choice}
-use Rattle.bus.specs.Codes.{coded_code, six_code}
+use Rattle.bus.specs.Codes.{coded_code, six_code, completes_reserved}
 use Rattle.bus.specs.Meaning.{State, Chip, rest, opened, Period, DataLoads, none, one}
 use Rattle.bus.specs.Outcomes.{settle}
-use Rattle.bus.specs.Periods.{extend, blank}
+use Rattle.bus.specs.Periods.{extend, blank, head_with}
 use Rattle.bus.specs.Steps.{loaded}
 use Rattle.bus.specs.Time.{passed}
 use Rattle.settling.specs.Settling.{Same, reads_after}
 use Rattle.rows.specs.Rows.{Stored}
 use Rattle.driver.specs.DriverRows.{sector_rows}
 use Rattle.driver.specs.Settled.{after_write}
+
+-- A part with sectors, at rest. A record and no type of the code with this as its invariant: what the driver then loads ends the rest,
+-- so the type would have to be taken apart in the middle of each call.
+pub record Ready (c : Chip) : Type 0 where
+  pub rests : c.phase ≡ rest
+  pub some : 256 ≤ c.sectors
+  pub few : c.sectors ≤ 8192
+
+-- such a part, with the sector r
+pub record Present (c : Chip) (r : ℕ) : Type 0 where
+  pub ready : Ready c
+  pub within : r < c.sectors
 
 -- n reads at rest
 pub record Quiet (c d : Chip) (n : ℕ) : Type 0 where
@@ -45,6 +57,15 @@ pub record Opened (c d : Chip) (p : Period) : Type 0 where
 abbrev pub extend_all : ℕ → Period → List Load → Period
 extend_all n p [] = p
 extend_all n p (l ∷ ls) = extend_all n (extend n p l) ls
+
+-- Loads that may follow those of a head: none completes a reserved code, and each address lies in every part that has sectors.
+abbrev pub Following : List Load → List Load → Type 0
+Following head [] = Unit {0}
+Following head (l ∷ ls) = (l.address < 32768) × (completes_reserved head l ≡ false) × Following (head_with head l) ls
+
+-- loads that may open a period
+abbrev pub Opening : List Load → Type 0
+Opening ls = (0 < length ls) × Following [] ls
 
 -- the codes that data loads follow
 pub data Code : Type 0 where
@@ -77,6 +98,10 @@ pub record Sent (c d : Chip) (s : State) : Type 0 where
   pub device : d.device ≡ c.device
   pub reads : d.reads ≡ c.reads
   pub settled : d.settled ≡ s
+
+-- Each such step from a part at rest sends: the settled state will change so. A step goes between sockets, and these are their parts.
+abbrev pub Sends : {S : Type 0} → (S → Chip) → (S → S → Type 0) → (State → State) → Type 0
+Sends meaning step after = (s t : _) → Ready (meaning s) → step s t → Sent (meaning s) (meaning t) (after (meaning s).settled)
 
 -- the same after 128 reads
 pub record SentBack (c d : Chip) (s : State) : Type 0 where

@@ -2,8 +2,6 @@
 use Rattle.std.specs.Prelude.{ℕ, true, false, List}
 use Rattle.bus.specs.Meaning.{State}
 use Rattle.bus.specs.Outcomes.{with_sector}
-use Rattle.driver.specs.declared.code.Command.{Command}
-use Rattle.driver.specs.declared.code.Command.TheVariants.{Protect, LockLow, LockHigh}
 
 -- a write: the bytes of the sector, and protection on
 abbrev pub after_write : State → ℕ → List ℕ → State
@@ -21,8 +19,3 @@ after_lock_low s = record { bytes = s.bytes; protected = s.protected; low_locked
 
 abbrev pub after_lock_high : State → State
 after_lock_high s = record { bytes = s.bytes; protected = s.protected; low_locked = s.low_locked; high_locked = true }
-
-abbrev pub after_command : Command → State → State
-after_command Protect s = after_protect s
-after_command LockLow s = after_lock_low s
-after_command LockHigh s = after_lock_high s

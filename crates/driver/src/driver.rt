@@ -1,4 +1,5 @@
 // The driver: a store of rows over any socket.
+mod checks;
 pub mod commands;
 pub mod making;
 pub mod others;

@@ -26,5 +26,5 @@ pub(crate) fn ask_lock<S: Socket>(socket: &mut S, sector: usize) -> bool
     ensures after { S.meaning socket.new ≡ with_phase (S.meaning socket.old) rest }
 {
     let id = socket.identify();
-    in_locked_block(id, (*socket).sectors(), sector)
+    in_locked_block(id, socket.sectors(), sector)
 }

@@ -6,7 +6,7 @@ use kinds::part_kind::At29c010a;
 use kinds::steady::Steady;
 use parts::making::make;
 use parts::run::run;
-use texts::bus_calls::{BusAnswer, BusCall};
+use texts::BusAnswer;
 
 // The chip's 1,024 sectors, and how long a cycle takes it in microseconds.
 const CHIP_BYTES: usize = 1024 * 128;
@@ -54,9 +54,7 @@ fn lock_and_identify() -> [Call; 12] {
 fn calls(rt: &HostRuntime, part: &mut Part<'_, Steady>, calls: &[Call]) -> anyhow::Result<()> {
     let answers = run(rt.alloc(), part, calls)?;
     for (call, answer) in calls.iter().zip(answers.iter()) {
-        let call = BusCall(*call);
-        let answer = BusAnswer(*answer);
-        println!(rt; "  {call}: {answer}")?;
+        println!(rt; "  {call}: {}", BusAnswer(*answer))?;
     }
     Ok(())
 }

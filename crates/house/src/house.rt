@@ -17,8 +17,7 @@ fn wire(rt: &HostRuntime, wiring: &mut Wiring, lines: &[u8]) -> anyhow::Result<(
     match wiring.set(lines) {
         Ok(()) => println!(rt; "wiring {lines:?}: set")?,
         Err(refusal) => {
-            let number = refusal.number();
-            println!(rt; "wiring {lines:?}: refused {number}, {refusal}")?;
+            println!(rt; "wiring {lines:?}: refused {}, {refusal}", refusal.number())?;
         }
     }
     Ok(())
@@ -37,7 +36,7 @@ fn write(heap: Global, row: usize, value: u8, count: usize) -> Result<RowCall, A
     Ok(RowCall::Write { row, bytes })
 }
 
-fn read(heap: Global, row: usize, count: usize) -> Result<RowCall, AllocError> {
+pub(crate) fn read(heap: Global, row: usize, count: usize) -> Result<RowCall, AllocError> {
     let place = vec![in heap; 0xAA; count]?;
     Ok(RowCall::Read { row, place })
 }

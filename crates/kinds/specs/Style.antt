@@ -1,7 +1,7 @@
 -- What a part chooses: the filling of unloaded bytes, the free bits of a status, the first bit 6, and cycle times.
 -- Assumes nothing.
 use Rattle.std.specs.Prelude.{ℕ, ◌+◌, ◌-◌, ◌%◌, ◌<◌, ◌≤◌, min, max, Bool, true, false, List, [], ◌∷◌, length, slice_index}
-use Rattle.std.proofs.Common.{arith}
+use Rattle.std.proofs.Common.{arith, lit<}
 
 -- what an unloaded byte becomes, bits 5 to 0 of every status, and bit 6 of the first
 pub record Style : Type 0 where
@@ -13,11 +13,14 @@ pub record Style : Type 0 where
 
 -- FF, and zeros
 abbrev pub steady_style : Style
-steady_style = record { filler = λ b. 255; filler_byte = λ b. omega arith; free = 0; free_small = omega arith; first = false }
+steady_style = record { filler = λ b. 255; filler_byte = λ b. lit< tt; free = 0; free_small = lit< tt; first = false }
+
+pub inverted_byte : (b : ℕ) → 255 - b < 256
+inverted_byte b = omega arith
 
 -- the inverted byte, and ones
 abbrev pub uneven_style : Style
-uneven_style = record { filler = λ b. 255 - b; filler_byte = λ b. omega arith; free = 63; free_small = omega arith; first = true }
+uneven_style = record { filler = λ b. 255 - b; filler_byte = inverted_byte; free = 63; free_small = lit< tt; first = true }
 
 -- cycle times, by the number of cycles before
 abbrev pub Timely : (ℕ → ℕ) → Type 0

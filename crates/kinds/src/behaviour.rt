@@ -10,7 +10,7 @@ use crate::refusal::PartRefusal;
 pub fn nearest_cycle_time(time: u16) -> u16
     ensures { result ≡ nearest time }
 {
-    time.max(1).min(10000)
+    time.clamp(1, 10000)
 }
 
 pub trait Behaviour {

@@ -1,23 +1,18 @@
 // Kinds of part.
-ghost use Rattle.std.specs.Prelude.{◌≡◌, ℕ, ◌≤◌};
+ghost use Rattle.std.specs.Prelude.{ℕ, ◌≤◌};
+ghost use Rattle.std.proofs.Common.{lit≤};
 
-// A kind states its number of sectors and its device code. A clause cannot name an associated constant, so each stands again as a
-// ghost member, which a function ties to it.
+// A kind states its number of sectors and its device code.
 pub trait PartKind {
     const SECTORS: u32;
 
+    ghost SECTORS: { ℕ };
+
     const DEVICE: u8;
 
-    ghost sectors: { ℕ };
+    ghost DEVICE: { ℕ };
 
-    ghost device: { ℕ };
-
-    fn sector_count() -> u32
-        ensures value { result ≡ sectors }
-        ensures bound { (256 ≤ result) × (result ≤ 8192) };
-
-    fn device_code() -> u8
-        ensures { result ≡ device };
+    ghost bound: { (256 ≤ SECTORS) × (SECTORS ≤ 8192) };
 }
 
 // 128 KiB.
@@ -27,19 +22,13 @@ pub struct At29c010a;
 impl PartKind for At29c010a {
     const SECTORS: u32 = 1024;
 
+    ghost SECTORS = { 1024 };
+
     const DEVICE: u8 = 0xD5;
 
-    ghost sectors = { 1024 };
+    ghost DEVICE = { 0xD5 };
 
-    ghost device = { 0xD5 };
-
-    fn sector_count() -> u32 {
-        Self::SECTORS
-    }
-
-    fn device_code() -> u8 {
-        Self::DEVICE
-    }
+    ghost bound = { (lit≤ tt, lit≤ tt) };
 }
 
 // The bench part, 32 KiB.
@@ -49,17 +38,11 @@ pub struct Bench;
 impl PartKind for Bench {
     const SECTORS: u32 = 256;
 
+    ghost SECTORS = { 256 };
+
     const DEVICE: u8 = 0x00;
 
-    ghost sectors = { 256 };
+    ghost DEVICE = { 0x00 };
 
-    ghost device = { 0x00 };
-
-    fn sector_count() -> u32 {
-        Self::SECTORS
-    }
-
-    fn device_code() -> u8 {
-        Self::DEVICE
-    }
+    ghost bound = { (lit≤ tt, lit≤ tt) };
 }

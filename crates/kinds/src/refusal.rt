@@ -5,9 +5,9 @@ ghost use Rattle.kinds.specs.Refusals.{part_number};
 #[derive(Clone, Copy, PartialEq, Eq, Debug)]
 pub enum PartRefusal {
     // The memory is not the sectors of the kind.
-    Memory,
+    Memory = 8,
     // The cycle time is not 1 to 10,000 microseconds.
-    CycleTime,
+    CycleTime = 9,
 }
 
 impl PartRefusal {
@@ -15,9 +15,6 @@ impl PartRefusal {
     pub fn number(self) -> u8
         ensures { result ≡ part_number self }
     {
-        match self {
-            PartRefusal::Memory => 8,
-            PartRefusal::CycleTime => 9,
-        }
+        self as u8
     }
 }

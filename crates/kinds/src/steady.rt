@@ -29,10 +29,11 @@ impl Behaviour for Steady {
     ghost timely = { λ s. steady_timely s.time };
 
     fn check(&self) -> Result<(), PartRefusal> {
-        if self.time < 1 || self.time > 10000 {
-            return Err(PartRefusal::CycleTime);
+        if (1..=10000).contains(&self.time) {
+            Ok(())
+        } else {
+            Err(PartRefusal::CycleTime)
         }
-        Ok(())
     }
 
     fn next_time(&mut self) -> u16 {

@@ -5,6 +5,7 @@ ghost use Rattle.kinds.specs.Style.{uneven_style, uneven_times, uneven_timely};
 use crate::behaviour::{Behaviour, nearest_cycle_time};
 use crate::refusal::PartRefusal;
 
+// The place is counted by hand and not kept by an iterator, since the times to come are told of a list and a place in it.
 #[derive(Drop)]
 pub struct Uneven<'t> {
     times: &'t [u16],
@@ -33,13 +34,14 @@ impl Behaviour for Uneven<'_> {
     }
 
     fn next_time(&mut self) -> u16 {
-        let times = self.times;
-        if times.len() == 0 {
-            return 10000;
+        match self.times {
+            [] => 10000,
+            times => {
+                let at = self.next % times.len();
+                self.next = at + 1;
+                nearest_cycle_time(times[at])
+            }
         }
-        let at = self.next % times.len();
-        self.next = at + 1;
-        nearest_cycle_time(times[at])
     }
 
     fn fill(&self, old: u8) -> u8 {

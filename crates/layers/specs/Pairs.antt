@@ -2,6 +2,7 @@
 use Rattle.std.specs.Prelude.{◌≡◌, ℕ, ◌+◌, ◌-◌, ◌*◌, ◌/◌, ◌%◌, ◌≤◌, min, cond, List, MatchBool, Result, ◌==◌, nat_lt}
 use Rattle.std.proofs.Common.{⊎_elim, ◌∙◌, arith}
 use Rattle.std.proofs.lemmas.Bool.{cases_lt, lt-ltb, le-ltb}
+use Rattle.rows.specs.Exchanges.{Asked, ask_write, Given, give_write}
 use Rattle.rows.specs.RowCalls.{Wrote}
 use Rattle.rows.specs.Rows.{Row, Rows, Lawful, Kept}
 use Rattle.rows.specs.declared.refusal.RowRefusal.{RowRefusal}
@@ -22,6 +23,12 @@ paired f b = record {
 -- A write to a pair from f and b to f' and b': one store takes it, in its own counting, and the other stays as it was.
 abbrev pub WroteOne : {X : Type 0} → Rows → Rows → Rows → Rows → ℕ → List ℕ → Result X RowRefusal → Type 0
 WroteOne f f' b b' row bytes r = MatchBool (nat_lt row f.count) (Wrote f f' row bytes r × Kept b b') (Kept f f' × Wrote b b' (row - f.count) bytes r)
+
+-- What a call on a pair leaves in both: only an accepted write changes one of them.
+abbrev pub Leaves : Rows → Rows → Rows → Rows → Asked → Given → Type 0
+Leaves f f' b b' (ask_write row bytes) (give_write r) = WroteOne f f' b b' row bytes r
+Leaves f f' b b' (ask_write row bytes) given = ⊥
+Leaves f f' b b' asked given = Kept f f' × Kept b b'
 
 even_bottom : (f b : ℕ → List ℕ) (a : ℕ) → cond ((2 * a) % 2 == 0) (f ((2 * a) / 2)) (b ((2 * a) / 2)) ≡ f a
 even_bottom f b a = let e : (2 * a) % 2 ≡ 0 = omega arith in let d : (2 * a) / 2 ≡ a = omega arith in rw (e, d)

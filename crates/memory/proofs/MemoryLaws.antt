@@ -1,5 +1,5 @@
 -- What a copy out of a memory gives, and what a write to a part of it does to its rows.
-use Rattle.std.proofs.Common.{◌≡◌, ℕ, suc, ◌+◌, ◌*◌, ◌%◌, ◌<◌, ◌≤◌, ◌⊎◌, List, [], ◌∷◌, ◌++◌, length, get_or, take, drop, sym, refl, ap, ◌∙◌, inl, inr, ⊎_elim, arith}
+use Rattle.std.proofs.Common.{◌≡◌, ℕ, suc, ◌+◌, ◌*◌, ◌%◌, ◌<◌, ◌≤◌, ◌⊎◌, Fits, w8, List, [], ◌∷◌, ◌++◌, length, get_or, take, drop, sym, refl, ap, ◌∙◌, inl, inr, ⊎_elim, arith}
 use borrow.Rule.Slice.PartMut.{put_mid}
 use Rattle.std.proofs.lemmas.List.{length-take, length-drop, length-append, get_or-take, get_or-drop, same_lists, places}
 use Rattle.std.proofs.lemmas.Bool.{cases_lt}
@@ -7,12 +7,16 @@ use Rattle.memory.specs.Memory.{row_of, as_bytes, memory_rows, rows_in, RowSet}
 use Rattle.rows.specs.Rows.{Stored}
 
 -- bytes in front of a list are as they are
-pub as_bytes_front : (xs d : List ℕ) → ((i : ℕ) → get_or (xs ++ d) i 0 < 256) → as_bytes xs ++ d ≡ xs ++ d
+as_bytes_front : (xs d : List ℕ) → ((i : ℕ) → get_or (xs ++ d) i 0 < 256) → as_bytes xs ++ d ≡ xs ++ d
 as_bytes_front [] d small = refl
 as_bytes_front (x ∷ xs) d small =
     let h = small 0 in
     let e : x % 256 ≡ x = omega arith in
     rw e (ap (λ ys. x ∷ ys) (as_bytes_front xs d (λ i. small (suc i))))
+
+-- what was copied into a place of bytes
+pub bytes_shown : (xs d ys : List ℕ) → ys ≡ xs ++ d → ((i : ℕ) → Fits w8 (get_or ys i 0)) → ys ≡ as_bytes xs ++ d
+bytes_shown xs d ys e fits = e ∙ sym (as_bytes_front xs d (λ i. rw e at (fits i).fits))
 
 pub as_bytes_same : (xs : List ℕ) → ((i : ℕ) → get_or xs i 0 < 256) → as_bytes xs ≡ xs
 as_bytes_same [] small = refl
@@ -53,9 +57,12 @@ row_other xs ys b row r s n =
     ∙ s.outside (128 * r + j) d (λ p q. n (omega arith))
     ∙ sym (get_or-take 128 _ j d m' ∙ get_or-drop (128 * r) _ j d))
 
-pub row_stored : (xs ys b : List ℕ) (row : ℕ) → RowSet xs ys row b → ((i : ℕ) → get_or b i 0 < 256) → Stored (memory_rows xs) (memory_rows ys) row b
-row_stored xs ys b row s small =
-    let here : as_bytes (row_of ys row) ≡ b = ap as_bytes s.here ∙ as_bytes_same b small in
+pub row_stored : (xs b last : List ℕ) (row k : ℕ) → 128 * row + 128 ≤ length xs → k ≡ 128 → last ≡ b → length b ≡ 128 → ((i : ℕ) → Fits w8 (get_or b i 0)) →
+    Stored (memory_rows xs) (memory_rows (put_mid (128 * row) k xs last)) row b
+row_stored xs b last row k f e l w fits =
+    let ys = put_mid (128 * row) k xs last in
+    let s = row_set xs b last row k f e l w in
+    let here : as_bytes (row_of ys row) ≡ b = ap as_bytes s.here ∙ as_bytes_same b (λ i. (fits i).fits) in
     record {
       count = ap rows_in s.long;
       here = ap (λ v. record { shown = v; locked = mathlib.Core.Bool.false; home = row; laid = λ x. x }) here;

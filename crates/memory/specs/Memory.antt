@@ -1,8 +1,9 @@
 -- The rows that lie in a memory.
-use Rattle.std.specs.Prelude.{◌≡◌, ℕ, ◌+◌, ◌*◌, ◌/◌, ◌%◌, ◌<◌, ◌≤◌, min, false, List, [], ◌∷◌, length, take, drop, slice_index, slice_index_or}
+use Rattle.std.specs.Prelude.{◌≡◌, ℕ, ◌+◌, ◌*◌, ◌/◌, ◌%◌, ◌<◌, ◌≤◌, min, false, List, [], ◌∷◌, ◌++◌, length, IfOk, MatchResult, OnOk, take, drop, slice_index, slice_index_or}
 use mathlib.Core.Path.{◌∙◌}
 use Rattle.std.proofs.Common.{arith}
 use Rattle.std.proofs.lemmas.List.{length-take, length-drop}
+use Rattle.rows.specs.Exchanges.{Asked, ask_count, ask_read, ask_write, ask_lock, Given, give_count, give_read, give_write, give_lock}
 use Rattle.rows.specs.Rows.{Rows, Lawful}
 
 -- so many whole rows, up to the most that a store has
@@ -54,3 +55,12 @@ pub record Holds (m : Rows) (xs : List ℕ) : Type 0 where
   pub count : m.count ≡ rows_in (length xs)
   pub shown : (r : ℕ) → (m.row r).shown ≡ as_bytes (row_of xs r)
   pub unlocked : (r : ℕ) → (m.row r).locked ≡ false
+
+-- What a call leaves in the memory, from its bytes xs before to ys after: only an accepted write changes them, and of them only
+-- those of its row. A read copies the bytes of its row, and no row is locked.
+abbrev pub Leaves : List ℕ → List ℕ → Asked → Given → Type 0
+Leaves xs ys ask_count (give_count n) = ys ≡ xs
+Leaves xs ys (ask_read row p) (give_read p' r) = OnOk r (p' ≡ row_of xs row ++ drop 128 p) × (ys ≡ xs)
+Leaves xs ys (ask_write row b) (give_write r) = MatchResult r (λ _. RowSet xs ys row b) (λ _. ys ≡ xs)
+Leaves xs ys (ask_lock row) (give_lock r) = IfOk r (λ locked. locked ≡ false) × (ys ≡ xs)
+Leaves xs ys asked given = ⊥

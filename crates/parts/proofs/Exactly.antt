@@ -2,13 +2,12 @@
 use Rattle.std.proofs.Common.{◌≡◌, ℕ, Bool, true, false, List, [], ◌∷◌, length, IfOk, Ok, Err, Result, sym, refl, ap, ◌∙◌, ap₂, arith}
 use mathlib.Core.Path.{fun_ext}
 use Rattle.bus.specs.declared.call.Call.{Call}
-use Rattle.bus.specs.declared.call.Answer.{Answer}
 use Rattle.chip.specs.declared.part.Part.{Part}
 use Rattle.kinds.specs.Style.{Style}
 use Rattle.chip.specs.Exact.{Onward, closes_in}
 use Rattle.parts.specs.Runs.{times_after, answers_by, chip_by, times_by}
 use Rattle.chip.specs.Meaning.{meant, Promised}
-use Rattle.bus.specs.History.{Kept, history}
+use Rattle.bus.specs.History.{Answer, Kept, history}
 
 onward_is : (b : Bool) (ts us : ℕ → ℕ) → Onward b ts us → us ≡ times_after b ts
 onward_is true ts us h = fun_ext h
@@ -39,7 +38,3 @@ module _ {B : Type 0} (y : Style) (times : B → ℕ → ℕ) where
         IfOk r (λ v. Kept (Promised y times) (history xs (items v)) p q) → IfOk r (λ v. Told xs (items v) p q)
     exact_made (Ok v) xs p q n k = exact_run xs (items v) p q (sym n) k
     exact_made (Err e) xs p q n k = tt
-
-pub made_map : {V E : Type 0} (r : Result V E) (P Q : V → Type 0) → ((v : V) → P v → Q v) → IfOk r P → IfOk r Q
-made_map (Ok v) P Q f h = f v h
-made_map (Err e) P Q f h = tt

@@ -1,7 +1,7 @@
 -- Whole lists of bus calls on a part of a given style. Assumes nothing.
 use Rattle.std.specs.Prelude.{ℕ, ◌+◌, Bool, true, false, List, [], ◌∷◌}
 use Rattle.bus.specs.declared.call.Call.{Call}
-use Rattle.bus.specs.declared.call.Answer.{Answer}
+use Rattle.bus.specs.History.{Answer}
 use Rattle.bus.specs.Meaning.{Chip}
 use Rattle.kinds.specs.Style.{Style}
 use Rattle.chip.specs.Exact.{answer_of, after_call, closes_in}

@@ -13,9 +13,9 @@ use kinds::refusal::PartRefusal;
 
 // Whether this memory and this behaviour make a part of the kind.
 pub fn check<K: PartKind, B: Behaviour>(memory: &[u8], behaviour: &B) -> Result<(), PartRefusal>
-    ensures { result_err result ≡ part_refusal K.sectors memory.now (B.fault behaviour.now) }
+    ensures { result_err result ≡ part_refusal K.SECTORS memory.now (B.fault behaviour.now) }
 {
-    if memory.len() != 128 * K::sector_count() as usize {
+    if memory.len() != 128 * K::SECTORS as usize {
         return Err(PartRefusal::Memory);
     }
     behaviour.check()
@@ -24,16 +24,9 @@ pub fn check<K: PartKind, B: Behaviour>(memory: &[u8], behaviour: &B) -> Result<
 // A new part of the kind over this memory: unprotected, unlocked and at rest, its first contents the memory's bytes. Where the check
 // refuses, a part without sectors.
 pub fn make<'a, K: PartKind, B: Behaviour + Drop>(memory: &'a mut [u8], behaviour: B) -> Part<'a, B>
-    ensures chip { meant B.style result ≡ made_as B.style (part_refusal K.sectors memory.old (B.fault behaviour)) K.sectors K.device memory.old }
+    ensures chip { meant B.style result ≡ made_as B.style (part_refusal K.SECTORS memory.old (B.fault behaviour)) K.SECTORS K.DEVICE memory.old }
     ensures behaviour { result.behaviour ≡ behaviour }
 {
-    let sectors = match check::<K, B>(memory, &behaviour) {
-        Ok(()) => K::sector_count(),
-        Err(_) => 0,
-    };
-    Part::new(
-        FlashArray::new(memory, sectors),
-        K::device_code(),
-        behaviour,
-    )
+    let sectors = check::<K, B>(memory, &behaviour).map_or(0, |()| K::SECTORS);
+    Part::new(FlashArray::new(memory, sectors), K::DEVICE, behaviour)
 }

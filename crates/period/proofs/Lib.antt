@@ -1,3 +1,1 @@
-pub mod Begins
-pub mod Heads
-pub mod Long
+mod Begins

@@ -1,5 +1,6 @@
 // The open load period as a part keeps it: constant work for each load.
 #![tactic(auto)]
 
-mod codes;
+mod head;
 pub mod open;
+pub mod page;

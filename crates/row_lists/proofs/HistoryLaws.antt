@@ -1,16 +1,14 @@
 -- The law of a list of row calls, one call more.
-use Rattle.std.proofs.Common.{◌≡◌, ℕ, ◌+◌, ◌<◌, ◌≤◌, true, false, cond, eqb, ltb, leb, List, [], ◌∷◌, ◌++◌, length, is_some, Some, None, Ok, Err, vec_items, Option, Result, unwrap_or, sym, refl, ap, ◌∙◌, subst, ⊎_elim, arith}
+use Rattle.std.proofs.Common.{◌≡◌, ℕ, ◌+◌, ◌<◌, ◌≤◌, true, false, cond, eqb, ltb, leb, List, [], ◌∷◌, ◌++◌, length, is_some, Some, None, vec_items, Option, unwrap_or, sym, refl, ap, ◌∙◌, subst, ⊎_elim, arith}
 use Rattle.std.proofs.lemmas.List.{length_push, take_at, take-append-le, get_or_append_left, get_or_at}
 use Rattle.std.proofs.lemmas.Bool.{cases_eq, cases_lt, eq-eqb, ne_eqb}
-use Rattle.rows.specs.Refusals.{answered}
-use Rattle.row_lists.specs.Histories.{Event, history, Taken, accepted, taken_by, or_else, last_write, due, count, read, read_due, write, lock_due, Moved, Made, Obeyed, Performed}
-use Rattle.rows.specs.RowCalls.{read_check, lock_check, Reads}
+use Rattle.rows.specs.Exchanges.{Asked, Given}
+use Rattle.row_lists.specs.Histories.{Event, history, asked, given, OwnKept, Taken, accepted, taken_by, or_else, last_write, due, count, read_due, write, lock_due, Moved, Made, Obeyed, Performed}
+use Rattle.rows.specs.RowCalls.{read_check, lock_check}
 use Rattle.rows.specs.Rows.{Rows, Lawful, showing}
 use Rattle.row_lists.specs.declared.calls.RowAnswer.{RowAnswer}
 use Rattle.row_lists.specs.declared.calls.RowCall.{RowCall}
 use Rattle.row_lists.specs.declared.calls.RowCall.TheVariants.{CountRows, Read, Write, AskLock}
-use Rattle.rows.specs.declared.refusal.RowRefusal.{RowRefusal}
-use Rattle.rows.specs.declared.refusal.RowRefusal.TheVariants.{Absent, Length, Locked}
 
 -- one event more
 
@@ -21,15 +19,15 @@ history_push [] (x ∷ xs) c a e = absurd (omega arith)
 history_push (d ∷ cs) [] c a e = absurd (omega arith)
 history_push (d ∷ cs) (x ∷ xs) c a e = ap (λ h. record { call = d; answer = x } ∷ h) (history_push cs xs c a (omega arith))
 
-or_else_none : {X : Type 0} (x : Option X) → x ≡ or_else x None
+pub or_else_none : {X : Type 0} (x : Option X) → x ≡ or_else x None
 or_else_none None = refl
 or_else_none (Some x) = refl
 
-or_else_assoc : {X : Type 0} (x y z : Option X) → or_else (or_else x y) z ≡ or_else x (or_else y z)
+pub or_else_assoc : {X : Type 0} (x y z : Option X) → or_else (or_else x y) z ≡ or_else x (or_else y z)
 or_else_assoc None y z = refl
 or_else_assoc (Some x) y z = refl
 
-value_or_else : {X : Type 0} (x y : Option X) (d : X) → unwrap_or (or_else x y) d ≡ unwrap_or x (unwrap_or y d)
+pub value_or_else : {X : Type 0} (x y : Option X) (d : X) → unwrap_or (or_else x y) d ≡ unwrap_or x (unwrap_or y d)
 value_or_else None y d = refl
 value_or_else (Some x) y d = refl
 
@@ -42,24 +40,16 @@ last_write_push r (d ∷ h) e = ap (λ o. or_else o (taken_by r (took d))) (last
 
 -- what one call moved
 module _ (m m' : Rows) where
-  moved_count : (w : Option Taken) → Moved m m' w → m'.count ≡ m.count
+  pub moved_count : (w : Option Taken) → Moved m m' w → m'.count ≡ m.count
   moved_count None d = d.count
   moved_count (Some t) d = d.1.count
 
-  moved_row : (r : ℕ) (w : Option Taken) → Moved m m' w → m'.row r ≡ showing (unwrap_or (taken_by r w) (m.row r).shown) (m.row r)
+  pub moved_row : (r : ℕ) (w : Option Taken) → Moved m m' w → m'.row r ≡ showing (unwrap_or (taken_by r w) (m.row r).shown) (m.row r)
   moved_row r None d = d.row r
   moved_row r (Some t) d = ⊎_elim
       (λ (e : t.row ≡ r). rw (eq-eqb t.row r e) (subst (λ s. m'.row s ≡ showing t.bytes (m.row s)) e d.1.here))
       (λ n. rw (ne_eqb t.row r n) (d.1.other r (λ e. n (sym e))))
       (cases_eq t.row r)
-
--- what an answered read tells
-pub read_right : (m m' : Rows) (row : ℕ) (p p' : List ℕ) (r : Result (Unit {0}) RowRefusal) → Reads m m' row p p' r →
-    read (answered r) p' ≡ read_due (read_check m row (length p)) (m.row row).shown p
-read_right m m' row p p' (Ok x) u = subst (λ n. read 0 p' ≡ read_due n (m.row row).shown p) u.checked (ap (read 0) u.fills)
-read_right m m' row p p' (Err Absent) u = subst (λ n. read 4 p' ≡ read_due n (m.row row).shown p) u.checked (ap (read 4) u.fills)
-read_right m m' row p p' (Err Length) u = subst (λ n. read 5 p' ≡ read_due n (m.row row).shown p) u.checked (ap (read 5) u.fills)
-read_right m m' row p p' (Err Locked) u = subst (λ n. read 6 p' ≡ read_due n (m.row row).shown p) u.checked (ap (read 6) u.fills)
 
 -- what is due depends on the number of rows, the locks and the bytes shown alone
 due_same : (m n : Rows) (h : List Event) → Obeyed m n h → (c : RowCall) → due n [] c ≡ due m h c
@@ -116,19 +106,6 @@ module _ (m n m' : Rows) (h : List Event) (l : Lawful m) (u : Obeyed m n h) wher
       d.1.apart a (λ e. out t.row (some_left (taken_by t.row (Some t)) (last_write t.row h) (rw (eq-eqb t.row t.row refl))) (sym (u.homes t.row) ∙ sym e))
       ∙ u.apart a (λ r s. out r (some_right (taken_by r (Some t)) (last_write r h) s))
 
-pub obeyed_none : (m : Rows) → Obeyed m m []
-obeyed_none m = record {
-  right = λ k e p. absurd (omega arith);
-  shown = λ r. refl;
-  rows = refl;
-  locks = λ r. refl;
-  homes = λ r. refl;
-  laid = λ r. refl;
-  exist = λ r b e. let z : ◌≡◌ {A = ℕ} 0 1 = cc in absurd (omega arith);
-  landed = λ r b e. let z : ◌≡◌ {A = ℕ} 0 1 = cc in absurd (omega arith);
-  apart = λ a out. refl;
-}
-
 pub obeyed_more : (m n m' : Rows) (h : List Event) (c : RowCall) (a : RowAnswer) → Lawful m → Obeyed m n h → Made n m' c a →
     Obeyed m m' (h ++ record { call = c; answer = a } ∷ [])
 obeyed_more m n m' h c a l u d =
@@ -160,12 +137,17 @@ obeyed_more m n m' h c a l u d =
       apart = λ i out. apart_more m n m' h l u i w d.moved (λ r s. out r (ap is_some (last_write_push r h e) ∙ s));
     }
 
-pub performed_none : (m : Rows) → Performed m m [] []
-performed_none m = record { every = refl; obeyed = obeyed_none m }
-
 pub performed_more : (m n m' : Rows) (cs : List RowCall) (xs : List RowAnswer) (c : RowCall) (a : RowAnswer) → Lawful m → Performed m n cs xs → Made n m' c a →
     Performed m m' (cs ++ c ∷ []) (xs ++ a ∷ [])
 performed_more m n m' cs xs c a l u d = record {
   every = length_push xs a ∙ ap (λ k. k + 1) u.every ∙ sym (length_push cs c);
   obeyed = rw (history_push cs xs c a u.every) (obeyed_more m n m' (history cs xs) c a l u.obeyed d);
 }
+
+own_push : {S : Type 0} (R : S → Asked → Given → S → Type 0) (h : List Event) (e : Event) (s m t : S) → OwnKept R h s m → R m (asked e.call) (given e.answer) t → OwnKept R (h ++ e ∷ []) s t
+own_push {S = S} R [] e s m t k v = (t, subst (λ (x : S). R x (asked e.call) (given e.answer) t) k v, refl)
+own_push R (d ∷ h) e s m t (n, u, r) v = (n, u, own_push R h e n m t r v)
+
+pub own_more : {S : Type 0} (R : S → Asked → Given → S → Type 0) (cs : List RowCall) (xs : List RowAnswer) (c : RowCall) (a : RowAnswer) (s m t : S) → length xs ≡ length cs →
+    OwnKept R (history cs xs) s m → R m (asked c) (given a) t → OwnKept R (history (cs ++ c ∷ []) (xs ++ a ∷ [])) s t
+own_more R cs xs c a s m t e k v = rw (history_push cs xs c a e) (own_push R (history cs xs) (record { call = c; answer = a }) s m t k v)

@@ -1,6 +1,7 @@
 -- Lists of row calls with their answers, and what they tell.
 use Rattle.std.specs.Prelude.{◌≡◌, ℕ, ◌<◌, Bool, true, false, cond, List, [], ◌∷◌, ◌++◌, length, take, drop, is_some, Some, None, Ok, Err, vec_items, Option, Result, ◌==◌, ◌≢◌, slice_index_or}
 use Rattle.std.specs.Option.{unwrap_or}
+use Rattle.rows.specs.Exchanges.{Asked, ask_count, ask_read, ask_write, ask_lock, Given, give_count, give_read, give_write, give_lock}
 use Rattle.rows.specs.Refusals.{number, answered}
 use Rattle.rows.specs.RowCalls.{read_check, write_check, lock_check}
 use Rattle.rows.specs.Rows.{Rows, Kept, Stored}
@@ -27,6 +28,19 @@ told (Count n) = count n
 told (Place place result) = read (answered result) (vec_items place)
 told (Done result) = write (answered result)
 told (Lock result) = lock_told result
+
+-- A call and its answer as a store's own promise has them.
+abbrev pub asked : RowCall → Asked
+asked CountRows = ask_count
+asked (Read row place) = ask_read row (vec_items place)
+asked (Write row bytes) = ask_write row (vec_items bytes)
+asked (AskLock row) = ask_lock row
+
+abbrev pub given : RowAnswer → Given
+given (Count n) = give_count n
+given (Place place result) = give_read (vec_items place) result
+given (Done result) = give_write result
+given (Lock result) = give_lock result
 
 -- A history: calls with their answers, the oldest first.
 pub record Event : Type 0 where
@@ -99,6 +113,11 @@ Moved m m' (Some t) = (t.row < m.count) × Stored m m' t.row t.bytes
 pub record Made (m m' : Rows) (c : RowCall) (a : RowAnswer) : Type 0 where
   pub right : told a ≡ due m [] c
   pub moved : Moved m m' (accepted c a)
+
+-- a store's own promise, kept at every call
+abbrev pub OwnKept : {S : Type 0} → (S → Asked → Given → S → Type 0) → List Event → S → S → Type 0
+OwnKept R [] s t = t ≡ s
+OwnKept {S = S} R (e ∷ h) s t = (m : S) × R s (asked e.call) (given e.answer) m × OwnKept R h m t
 
 -- The law of a list of row calls, from the meaning m before to m' after.
 pub record Obeyed (m m' : Rows) (h : List Event) : Type 0 where

@@ -1,14 +1,15 @@
 // Lists of row calls on any store.
-ghost use Rattle.std.specs.Prelude.{◌≡◌, length, MatchResult};
-ghost use Rattle.row_lists.specs.Histories.{Made, Performed};
+ghost use Rattle.std.specs.Prelude.{◌≡◌, IfOk, MatchResult};
+ghost use Rattle.row_lists.specs.Histories.{asked, given, history, Made, OwnKept, Performed};
 
 use crate::calls::{RowAnswer, RowCall};
 use rows::store::Store;
 use std::alloc::{AllocError, Global};
 
-// Makes one call.
+// Makes one call. The call is a value of a list, and so matched.
 pub fn make<S: Store>(store: &mut S, call: RowCall) -> RowAnswer
-    ensures { Made (S.meaning store.old) (S.meaning store.new) call result }
+    ensures made { Made (S.meaning store.old) (S.meaning store.new) call result }
+    ensures own { S.promise store.old (asked call) (given result) store.new }
 {
     match call {
         RowCall::CountRows => RowAnswer::Count(store.rows()),
@@ -28,9 +29,12 @@ pub fn perform<S: Store>(
     store: &mut S,
     calls: Vec<RowCall>,
 ) -> Result<Vec<RowAnswer>, AllocError>
-    ensures { MatchResult result (λ answers. Performed (S.meaning store.old) (S.meaning store.new) calls.items answers.items) (λ _. store.new ≡ store.old) }
+    ensures performed { MatchResult result (λ answers. Performed (S.meaning store.old) (S.meaning store.new) calls.items answers.items) (λ _. store.new ≡ store.old) }
+    ensures own { IfOk result (λ answers. OwnKept S.promise (history calls.items answers.items) store.old store.new) }
 {
     let mut answers = Vec::with_capacity(heap, calls.len())?;
+    // A loop and no chain (tried): the closure would change the store that it captures, and then nothing is known of the answers.
+    // No generic function with `serve` and `replay`: it needs a trait for "makes a call" with an impl for each, and each is four lines.
     for call in calls {
         answers.push_reserved(make(store, call));
     }

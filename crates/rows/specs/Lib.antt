@@ -1,3 +1,5 @@
+pub mod Below
+pub mod Exchanges
 pub mod Refusals
 pub mod RowCalls
 pub mod Rows

@@ -1,4 +1,4 @@
-// A store that is lent is a store.
+// A store that is lent is a store: each call is passed on in a line, which no form makes plainer.
 use crate::refusal::RowRefusal;
 use crate::store::Store;
 
@@ -6,6 +6,8 @@ impl<'a, S: Store> Store for &'a mut S {
     ghost meaning = { λ s. S.meaning s.now };
 
     ghost lawful = { λ s. S.lawful s.now };
+
+    ghost promise = { λ s asked given t. S.promise s.now asked given t.now };
 
     fn rows(&mut self) -> usize {
         (**self).rows()

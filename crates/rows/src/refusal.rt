@@ -2,17 +2,18 @@
 ghost use Rattle.std.specs.Prelude.{◌≡◌, Some};
 ghost use Rattle.rows.specs.Refusals.{number, words};
 
+use std::error::Error;
 use std::fmt;
 
-// In the order in which the checks are made: the first that fails is the answer.
+// In the order in which the checks are made: the first that fails is the answer. Each has its number.
 #[derive(Clone, Copy, PartialEq, Eq, Debug)]
 pub enum RowRefusal {
     // the row does not exist
-    Absent,
+    Absent = 4,
     // the place has under 128 bytes, or the write has not exactly 128
-    Length,
+    Length = 5,
     // the row is locked
-    Locked,
+    Locked = 6,
 }
 
 impl RowRefusal {
@@ -20,11 +21,7 @@ impl RowRefusal {
     pub fn number(self) -> u8
         ensures { result ≡ number self }
     {
-        match self {
-            RowRefusal::Absent => 4,
-            RowRefusal::Length => 5,
-            RowRefusal::Locked => 6,
-        }
+        self as u8
     }
 
     // The refusal in words.
@@ -39,6 +36,7 @@ impl RowRefusal {
     }
 }
 
+// By hand: a derived Display promises nothing of what it prints.
 impl fmt::Display for RowRefusal {
     ghost output = { λ refusal. Some (words refusal) };
 
@@ -46,3 +44,5 @@ impl fmt::Display for RowRefusal {
         f.write_str(self.words())
     }
 }
+
+impl Error for RowRefusal {}

@@ -1,14 +1,13 @@
 -- What harmless calls of other software do to a protected part: nothing settled changes. Assumes nothing.
-use Rattle.std.proofs.Common.{◌≡◌, ℕ, ◌+◌, ◌-◌, ◌*◌, Bool, true, false, cond, not, ◌&&◌, ltb, leb, List, [], ◌∷◌, ◌++◌, length, Some, Err, MatchBool, sym, refl, ap, ◌∙◌, subst, inl, inr, arith}
-use Rattle.std.proofs.lemmas.Bool.{and_left, and_right, cond-false, cases_Bool, le-ltb}
-use Rattle.bus.specs.declared.call.Answer.{Answer}
+use Rattle.std.proofs.Common.{◌≡◌, ℕ, ◌+◌, ◌-◌, ◌*◌, Bool, true, false, cond, not, ◌&&◌, ltb, leb, List, [], ◌∷◌, ◌++◌, length, Some, Err, MatchBool, sym, refl, ap, ◌∙◌, subst, inl, inr, arith, rules}
+use Rattle.std.proofs.lemmas.Bool.{not-true, and_left, and_right, cond-false, cases_Bool, le-ltb}
 use Rattle.bus.specs.declared.kind.Kind.{Kind}
 use Rattle.bus.specs.declared.kind.Kind.TheVariants.{Plain}
 use Rattle.bus.specs.declared.load.Load.{Load}
 use Rattle.bus.specs.declared.outcome.Outcome.TheVariants.{Barred}
 use Rattle.bus.specs.declared.refusal.BusRefusal.TheVariants.{Outside}
 use Rattle.bus.specs.Codes.{at, matches, begins, coded_code, six_code, completes_reserved, kind_of}
-use Rattle.bus.specs.History.{Answered}
+use Rattle.bus.specs.History.{Answer, Answered}
 use Rattle.bus.specs.Meaning.{State, Chip, Phase, rest, opened, cycle, Period, DataLoads, with_phase}
 use Rattle.bus.specs.Outcomes.{settle, settle_as, bytes_after, outcome_by_data}
 use Rattle.bus.specs.Periods.{extend, fresh}
@@ -93,14 +92,10 @@ load_idle fill l c (opened b p age) g h k =
 load_idle fill l c (cycle e t) g h k = record { sectors = refl; settled = refl; calm = tt }
 
 idle_trans : (a b c : Chip) → Idle a b → Idle b c → Idle a c
-idle_trans a b c p q = record { sectors = q.sectors ∙ p.sectors; settled = q.settled ∙ p.settled; calm = q.calm }
+idle_trans a b c p q = search rules
 
 idle_self : (c : Chip) → Calm c.phase c.settled → Idle c c
-idle_self c h = record { sectors = refl; settled = refl; calm = h }
-
-not_true : (b : Bool) → not b ≡ true → b ≡ false
-not_true true e = sym e
-not_true false e = refl
+idle_self c h = search rules
 
 pub others_idle : (x : OthersCall) (a : Answer) (c d : Chip) → harmless_call x ≡ true → c.settled.protected ≡ true → Calm c.phase c.settled → Answered (bus_call x) a c d → Idle c d
 others_idle (Calls.Load l g) a c d f u h (o, m, e) = elim (cases_Bool (inside c l.address)) [
@@ -109,7 +104,7 @@ others_idle (Calls.Load l g) a c d f u h (o, m, e) = elim (cases_Bool (inside c 
       let w = q.0 in
       let p = passed w.time g c in
       let i = idle_passed c p w.time g h refl in
-      subst (λ (x : Chip). Idle c x) (sym q.1) (idle_trans c p _ i (load_idle w.fill l p p.phase u i.calm (not_true (matches (at 0x2AAA 0x55) l) f)))
+      subst (λ (x : Chip). Idle c x) (sym q.1) (idle_trans c p _ i (load_idle w.fill l p p.phase u i.calm (not-true (matches (at 0x2AAA 0x55) l) f)))
   | inr t ↦
       let q = subst (λ (b : Bool). MatchBool b (LoadsInside l g c d o) ((d ≡ c) × (o ≡ Some Outside))) t m in
       subst (λ (x : Chip). Idle c x) (sym q.0) (idle_self c h)

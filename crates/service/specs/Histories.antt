@@ -34,10 +34,7 @@ Run (e ∷ h) c d = (m : Chip) × Done c m e.call e.reply.answer e.reply.settlin
 -- our accepted write in an event, if it is one
 abbrev pub took_by : ServiceCall → ServiceAnswer → Option Taken
 took_by (Calls.Row x) (Answers.Row a) = accepted x a
-took_by (Calls.Row x) (Answers.Lock r) = None
-took_by (Calls.Row x) (Answers.Others a) = None
-took_by (Calls.Lock b) a = None
-took_by (Calls.Others x) a = None
+took_by _ _ = None
 
 abbrev pub took : Event → Option Taken
 took e = took_by e.call e.reply.answer
@@ -58,11 +55,8 @@ is_accepted (Err e) = false
 
 -- whether an event is our accepted lock call on the block of row r
 abbrev pub locks_by : ℕ → ℕ → ServiceCall → ServiceAnswer → Bool
-locks_by n r (Calls.Row x) a = false
-locks_by n r (Calls.Lock b) (Answers.Row a) = false
 locks_by n r (Calls.Lock b) (Answers.Lock x) = is_accepted x && in_block n b r
-locks_by n r (Calls.Lock b) (Answers.Others a) = false
-locks_by n r (Calls.Others x) a = false
+locks_by n r _ _ = false
 
 abbrev pub locked_by : ℕ → ℕ → List Event → Bool
 locked_by n r [] = false

@@ -19,14 +19,9 @@ use Rattle.service.specs.declared.calls.ServiceCall.TheVariants as Calls
 -- the steps of the run alone.
 abbrev pub Right : Chip → Rows → ServiceCall → ServiceAnswer → Type 0
 Right c m (Calls.Row x) (Answers.Row a) = told a ≡ due m [] x
-Right c m (Calls.Row x) (Answers.Lock r) = ⊥
-Right c m (Calls.Row x) (Answers.Others a) = ⊥
-Right c m (Calls.Lock b) (Answers.Row a) = ⊥
 Right c m (Calls.Lock b) (Answers.Lock r) = answered r ≡ part_check c
-Right c m (Calls.Lock b) (Answers.Others a) = ⊥
-Right c m (Calls.Others x) (Answers.Row a) = ⊥
-Right c m (Calls.Others x) (Answers.Lock r) = ⊥
 Right c m (Calls.Others x) (Answers.Others a) = Unit {0}
+Right c m _ _ = ⊥
 
 -- A history h led from c to d: every call got the right answer then, the rows at the end are what the history says, and the part is still
 -- protected.

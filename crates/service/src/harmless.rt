@@ -8,22 +8,16 @@ use crate::calls::{OthersCall, ServiceCall};
 fn is_harmless(call: &ServiceCall) -> bool
     ensures { result ≡ harmless call.now }
 {
-    match call {
-        ServiceCall::Others(OthersCall::Load(load, _)) => {
-            !(load.address % 0x8000 == 0x2AAA && load.byte == 0x55)
-        }
-        _ => true,
-    }
+    !matches!(
+        call,
+        ServiceCall::Others(OthersCall::Load(load, _))
+            if load.address % 0x8000 == 0x2AAA && load.byte == 0x55
+    )
 }
 
 // Whether every call of the list is harmless.
 pub fn all_harmless(calls: &[ServiceCall]) -> bool
     ensures { result ≡ all_harmless calls.now }
 {
-    for call in calls {
-        if !is_harmless(call) {
-            return false;
-        }
-    }
-    true
+    calls.iter().all(is_harmless)
 }

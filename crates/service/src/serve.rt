@@ -23,6 +23,8 @@ pub fn serve<S: Socket>(
     ensures refused { OnErr result (driver.new ≡ driver.old) }
 {
     let mut replies = Vec::with_capacity(heap, calls.len())?;
+    // A loop and no chain (tried): the closure would change the driver that it captures, and then nothing is known of the replies.
+    // No generic function with `perform` and `replay`: it needs a trait for "makes a call" with an impl for each, and each is four lines.
     for call in calls {
         replies.push_reserved(make_call(driver, call));
     }

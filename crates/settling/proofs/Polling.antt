@@ -1,6 +1,6 @@
 -- One poll more on the way to rest. Assumes nothing.
-use Rattle.std.proofs.Common.{◌≡◌, ℕ, ◌+◌, ◌-◌, ◌*◌, ◌/◌, ◌%◌, ◌<◌, ◌≤◌, Bool, true, false, not, eqb, leb, ◌⊎◌, List, [], ◌∷◌, length, get_or, Ok, Err, MatchBool, Result, sym, refl, ap, ◌∙◌, subst, inl, inr, arith}
-use Rattle.std.proofs.lemmas.Bool.{eqb-true, eqb-false, cases_lt, lt-ltb, le-ltb, lt-leb, cond-false}
+use Rattle.std.proofs.Common.{◌≡◌, ℕ, ◌+◌, ◌-◌, ◌*◌, ◌<◌, ◌≤◌, Bool, true, false, not, leb, ◌⊎◌, List, [], ◌∷◌, length, get_or, Err, MatchBool, MatchResult, Result, sym, refl, ap, ◌∙◌, subst, inl, inr, arith, rules}
+use Rattle.std.proofs.lemmas.Bool.{cases_lt, lt-ltb, le-ltb, lt-leb, cond-false}
 use Rattle.bus.specs.declared.refusal.BusRefusal.{BusRefusal}
 use Rattle.bus.specs.declared.refusal.BusRefusal.TheVariants.{Outside}
 use Rattle.bus.specs.Choices.{Choice}
@@ -39,19 +39,11 @@ Seen m d n b = (bits : List ℕ) × Sees m (b ∷ bits) d × Toggling (b ∷ bit
 pub read_in : (a g : ℕ) (c d : Chip) (r : Result ℕ BusRefusal) → a < 128 * c.sectors → Reads a g c d r → ReadsInside a g c d r
 read_in a g c d r h p = subst (λ (b : Bool). MatchBool b (ReadsInside a g c d r) ((d ≡ c) × (r ≡ Err Outside))) (lt-ltb a (128 * c.sectors) h) p
 
--- the read of address 0 is answered
-pub poll_ok : (c d : Chip) (b : ℕ) → 0 < c.sectors → Reads 0 100 c d (Ok b) → Polls c d (b / 64 % 2)
-poll_ok c d b h r =
-    let p = read_in 0 100 c d (Ok b) (omega arith) r in
-    let v : b ≡ read_byte p.0 (passed p.0.time 100 c) 0 = let e = p.2 in cc in
-    (p.0, p.1, ap toggle_bit v)
-
-pub poll_err : (c d : Chip) (e : BusRefusal) → 0 < c.sectors → Reads 0 100 c d (Err e) → ⊥
-poll_err c d e h r =
-    let p = read_in 0 100 c d (Err e) (omega arith) r in
-    let q = p.2 in
-    let z : ◌≡◌ {A = ℕ} 0 1 = cc in
-    omega arith
+-- the read of address 0 is answered, and b is the toggle bit of its byte
+pub poll_gives : (c d : Chip) (r : Result ℕ BusRefusal) (b : ℕ) → 0 < c.sectors → Reads 0 100 c d r → MatchResult r (λ x. b ≡ toggle_bit x) (λ e. b ≡ 0) → Polls c d b
+poll_gives c d r b h p q =
+    let (w, after, answer) = read_in 0 100 c d r (omega arith) p in
+    (w, after, rw answer at q)
 
 -- a cycle goes on, or ends
 ran_on : (e t : ℕ) → ((e < t) × (running t e ≡ cycle e t)) ⊎ ((t ≤ e) × (running t e ≡ rest))
@@ -74,7 +66,7 @@ waited_stage (cycle e u) t h b = elim (ran_on (e + 151) u) [
 
 pub waited : (c d : Chip) → Lawful c → Waits 151 c d → Same c d × (d.reads ≡ c.reads) × Stage d.phase 0
 waited c d l (w, e) = (
-  record { sectors = ap (λ (x : Chip). x.sectors) e; device = ap (λ (x : Chip). x.device) e; settled = ap (λ (x : Chip). x.settled) e; last = ap (λ (x : Chip). x.last) e },
+  search rules,
   ap (λ (x : Chip). x.reads) e,
   subst (λ (f : Phase). Stage f 0) (sym (ap (λ (x : Chip). x.phase) e)) (waited_stage c.phase w.time l.timely w.time_most),
 )
@@ -145,21 +137,16 @@ first_shows w d d' x (cycle e u) s q r = elim (ran_on (e + 100) u) [
 ]
 
 pub same_read : (c d d' : Chip) (t g : ℕ) → Same c d → d' ≡ after_read (passed t g d) → Same c d'
-same_read c d d' t g s q = record {
-  sectors = ap (λ (x : Chip). x.sectors) q ∙ s.sectors;
-  device = ap (λ (x : Chip). x.device) q ∙ s.device;
-  settled = ap (λ (x : Chip). x.settled) q ∙ s.settled;
-  last = ap (λ (x : Chip). x.last) q ∙ s.last;
-}
+same_read c d d' t g s q = search rules
 
 count_more : (a n r r' : ℕ) → 1 ≤ n → r ≡ reads_after a (n - 1) → r' ≡ counted r → r' ≡ reads_after a (n + 1 - 1)
 count_more a n r r' h e f = omega arith
 
 pub same_self : (c : Chip) → Same c c
-same_self c = record { sectors = refl; device = refl; settled = refl; last = refl }
+same_self c = search rules
 
 pub same_trans : (a b c : Chip) → Same a b → Same b c → Same a c
-same_trans a b c s t = record { sectors = t.sectors ∙ s.sectors; device = t.device ∙ s.device; settled = t.settled ∙ s.settled; last = t.last ∙ s.last }
+same_trans a b c s t = search rules
 
 pub poll_first : (d d' : Chip) (x : ℕ) → Stage d.phase 0 → Polls d d' x → Polled d' d' 1 x
 poll_first d d' x g (w, q, v) =
@@ -223,23 +210,20 @@ pub seen_done : (c m d d' : Chip) (n b x : ℕ) → Waits 151 c m → Seen m d n
 seen_done c m d d' n b x w (bits, s, t, k) p e = record { waited = m; wait = w; bits = x ∷ (b ∷ bits); sees = (d, s, p); agreed = (e, t); long = omega arith }
 
 -- what the loop keeps: n polls, the newest of which gave b, since the first, which left the part as c with the bit a
-abbrev pub Kept : Chip → ℕ → Chip → ℕ → ℕ → Type 0
-Kept c a d n b = Polled c d n b × ((z : Chip) → Polls z c a → Seen z d n b)
+pub record Kept (c : Chip) (a : ℕ) (d : Chip) (n b : ℕ) : Type 0 where
+  pub polled : Polled c d n b
+  pub seen : (z : Chip) → Polls z c a → Seen z d n b
 
-pub kept_first : (d d' : Chip) (n b x : ℕ) → Stage d.phase 0 → Polls d d' x → b ≡ x → n ≡ 1 → Kept d' b d' n b
-kept_first d d' n b x s p e f =
-    subst (λ (k : ℕ). Kept d' b d' k b) (sym f) (subst (λ (a : ℕ). Kept d' a d' 1 a) (sym e) (poll_first d d' x s p, λ z q. seen_first z d' x q))
+pub kept_first : (d e : Chip) (a : ℕ) → Stage d.phase 0 → Polls d e a → Kept e a e 1 a
+kept_first d e a s p = record { polled = poll_first d e a s p; seen = λ z q. seen_first z e a q }
 
-pub kept_more : (c d d' : Chip) (a n b x m y : ℕ) → Kept c a d n b → Polls d d' x → y ≡ x → m ≡ n + 1 → false ≡ eqb y b →
-    Kept c a d' m y × (left d'.phase < left d.phase)
-kept_more c d d' a n b x m y k p e f t =
-    let ne : x ≡ b → ⊥ = λ q. eqb-false y b (sym t) (e ∙ q) in
-    let g = poll_more c d d' n b x k.0 p ne in
-    (subst (λ (i : ℕ). Kept c a d' i y) (sym f) (subst (λ (u : ℕ). Kept c a d' (n + 1) u) (sym e) (g.0, λ z q. seen_more z d d' n b x (k.1 z q) p ne)), g.1)
+pub kept_more : (c d e : Chip) (a n b x : ℕ) → Kept c a d n b → Polls d e x → (x ≡ b → ⊥) → Kept c a e (n + 1) x
+kept_more c d e a n b x k p ne = record { polled = (poll_more c d e n b x k.polled p ne).0; seen = λ z q. seen_more z d e n b x (k.seen z q) p ne }
 
-pub kept_done : (d e e' f : Chip) (a n b x y m v : ℕ) → 0 < d.sectors → Polls d e v → a ≡ v → Kept e a e' n b → Polls e' f x → y ≡ x → m ≡ n + 1 → true ≡ eqb y b →
-    Agreement d f m
-kept_done d e e' f a n b x y m v s p q k r h i t =
-    let same : x ≡ b = sym h ∙ eqb-true y b (sym t) in
-    let done = poll_done e e' f n b x k.0 r same in
-    rw i (agreement d e f n v p done k.0.some s (λ z w. seen_done z d e' f n b x w (k.1 d (subst (λ (u : ℕ). Polls d e u) (sym q) p)) r same))
+-- a poll that differs leaves less of the cycle to run
+pub left_less : (c d e : Chip) (a n b x : ℕ) → Kept c a d n b → Polls d e x → (x ≡ b → ⊥) → left e.phase < left d.phase
+left_less c d e a n b x k p ne = (poll_more c d e n b x k.polled p ne).1
+
+pub kept_done : (z c d e : Chip) (a n b x : ℕ) → 0 < z.sectors → Polls z c a → Kept c a d n b → Polls d e x → x ≡ b → Agreement z e (n + 1)
+kept_done z c d e a n b x some first k p same =
+    agreement z c e n a first (poll_done c d e n b x k.polled p same) k.polled.some some (λ y w. seen_done y z d e n b x w (k.seen z first) p same)

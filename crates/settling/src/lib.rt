@@ -1,5 +1,4 @@
 // Waiting until a part in a socket is at rest, by its toggle bit.
 #![tactic(auto)]
 
-mod poll;
 pub mod settle;

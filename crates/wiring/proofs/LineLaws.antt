@@ -1,36 +1,66 @@
--- Lines that are once once, their reverse, and bytes through them.
-use Rattle.std.proofs.Common.{◌≡◌, ℕ, zero, suc, ◌+◌, ◌-◌, ◌*◌, ◌/◌, ◌%◌, ◌^◌, ◌<◌, ◌≤◌, cond, eqb, ltb, ◌⊎◌, List, [], ◌∷◌, map, length, get_or, drop, sym, refl, ap, ◌∙◌, inl, inr, ⊎_elim, one-add, arith, pow_mono}
+-- Lines that name each of 0 to 7 once, their reverse, and bytes through them.
+use Rattle.std.proofs.Common.{Bor, reverse, ◌*◌, ◌≡◌, ℕ, zero, suc, ◌+◌, ◌-◌, ◌/◌, ◌%◌, ◌^◌, ◌<◌, ◌≤◌, cond, eqb, ltb, ◌⊎◌, List, [], ◌∷◌, ◌++◌, map, length, get_or, sym, Bool, true, false, Option, Some, None, refl, ap, ◌∙◌, subst, inl, inr, ⊎_elim, zero-add, one-add, arith, pow_mono}
+use Rattle.std.proofs.lemmas.List.Sums.{prefix_len-le-length}
 use native.Mathlib.Nat.{pow-succ', div-div-eq-div-mul}
-use Rattle.std.specs.List.{range_with_len}
-use Rattle.std.proofs.lemmas.List.FromFn.{length-map-range_with_len, get_or-map-range_with_len, fill_by_all}
-use Rattle.std.proofs.lemmas.List.{get_or-map, at_drop_more, length-drop}
-use Rattle.std.proofs.lemmas.Bool.{cases_eq, eq-eqb, ne_eqb}
+use Rattle.std.specs.Array.{MapsFrom, IsMapOf}
+use Rattle.std.specs.Fn.{Called}
+use Rattle.std.specs.List.{count_by, position_or_len, list_all, range_with_len}
+use denote.Param.Members.{Mut}
+use Rattle.std.proofs.lemmas.List.Recursion.{is_count_by, is_position_or_len}
+use Rattle.std.specs.Bool.{MatchBool}
+use Rattle.std.specs.Option.{unwrap_or}
+use Rattle.std.proofs.lemmas.List.Sums.{AllPass-from_list_all, list_all-from_AllPass}
+use Rattle.std.proofs.lemmas.List.FromFn.{get_or-range_with_len, length-map-range_with_len, get_or-map-range_with_len, fill_by_all}
+use Rattle.std.proofs.lemmas.List.{same_lists, length-map, get_or-map, get_or-reverse, get_or_default, length-reverse, reverse-append}
+use Rattle.std.proofs.lemmas.Bool.{cases_eq, cases_lt, eq-eqb, eqb-true, ne_eqb, lt-ltb, le-ltb}
 use Rattle.std.proofs.lemmas.Bool.Decides.{nat_tests}
 use Rattle.wiring.specs.Lines.{occurrences, EachOnce, bit, crossed, position, reversed, Shows}
 
 abbrev one : ℕ → ℕ → ℕ
 one x v = cond (eqb x v) 1 0
 
--- one line more
-pub occurrences_here : (v : ℕ) (ls : List ℕ) (i : ℕ) → i < length ls → get_or ls i 0 ≡ v → occurrences v (drop i ls) ≡ 1 + occurrences v (drop (i + 1) ls)
-occurrences_here v ls i h e = at_drop_more (occurrences v) ls i 0 h ∙ ap (λ b. cond b 1 0 + occurrences v (drop (i + 1) ls)) (eq-eqb (get_or ls i 0) v e)
+-- the library's words for how often a line is named, and where
+add_cond : (b : Bool) (n : ℕ) → cond b 1 0 + n ≡ cond b (1 + n) n
+add_cond true n = refl
+add_cond false n = zero-add n
 
-pub occurrences_other : (v : ℕ) (ls : List ℕ) (i : ℕ) → i < length ls → (get_or ls i 0 ≡ v → ⊥) → occurrences v (drop i ls) ≡ occurrences v (drop (i + 1) ls)
-occurrences_other v ls i h n = at_drop_more (occurrences v) ls i 0 h ∙ ap (λ b. cond b 1 0 + occurrences v (drop (i + 1) ls)) (ne_eqb (get_or ls i 0) v n) ∙ omega arith
+pub occurrences-count_by : (v : ℕ) (ls : List ℕ) → occurrences v ls ≡ count_by (λ x. eqb x v) ls
+occurrences-count_by v ls = is_count_by (occurrences v) (λ x. eqb x v) refl (λ x xs. add_cond (eqb x v) (occurrences v xs)) ls
 
-pub position_here : (v : ℕ) (ls : List ℕ) (i : ℕ) → i < length ls → get_or ls i 0 ≡ v → position v (drop i ls) ≡ 0
-position_here v ls i h e = at_drop_more (position v) ls i 0 h ∙ ap (λ b. cond b 0 (1 + position v (drop (i + 1) ls))) (eq-eqb (get_or ls i 0) v e)
+position-or_len : (v : ℕ) (ls : List ℕ) → position v ls ≡ position_or_len (λ x. eqb x v) ls
+position-or_len v ls = is_position_or_len (position v) (λ x. eqb x v) refl (λ x xs. refl) ls
 
-pub position_other : (v : ℕ) (ls : List ℕ) (i : ℕ) → i < length ls → (get_or ls i 0 ≡ v → ⊥) → position v (drop i ls) ≡ 1 + position v (drop (i + 1) ls)
-position_other v ls i h n = at_drop_more (position v) ls i 0 h ∙ ap (λ b. cond b 0 (1 + position v (drop (i + 1) ls))) (ne_eqb (get_or ls i 0) v n)
+-- a test of each of 0 to 7
+pub each_once_all : (ls : List ℕ) (r : Bool) → length ls ≡ 8 → r ≡ list_all (λ v. eqb (occurrences v ls) 1) (range_with_len 0 8) → MatchBool r (EachOnce ls) (EachOnce ls → ⊥)
+each_once_all ls true l e = (
+  l,
+  λ v h.
+      let all = AllPass-from_list_all (λ w. eqb (occurrences w ls) 1) (range_with_len 0 8) (sym e) in
+      subst (λ w. occurrences w ls ≡ 1) (get_or-range_with_len 0 8 v 0 h ∙ zero-add v) (eqb-true _ 1 (all v 0 h)),
+)
+each_once_all ls false l e = λ once.
+    let all = list_all-from_AllPass (λ w. eqb (occurrences w ls) 1) (range_with_len 0 8)
+    (λ v d h. eq-eqb _ 1 (subst (λ w. occurrences w ls ≡ 1) (sym (get_or-range_with_len 0 8 v d h ∙ zero-add v)) (once.1 v h))) in
+    let z : false ≡ true = e ∙ all in
+    cc
 
--- a line that is there occurrences
+-- where a line is, or how many there are
+pub found_or : (v : ℕ) (ls : List ℕ) (r : Option ℕ) (n : ℕ) → length ls ≡ n → r ≡ cond (ltb (position_or_len (λ x. eqb x v) ls) (length ls)) (Some (position_or_len (λ x. eqb x v) ls)) None → unwrap_or r n ≡ position v ls
+found_or v ls r n l e =
+    let at = position_or_len (λ x. eqb x v) ls in
+    let most : at ≤ length ls = prefix_len-le-length _ ls in
+    ⊎_elim
+    (λ h. rw (e, lt-ltb at (length ls) h) (sym (position-or_len v ls)))
+    (λ h. let n_is : n ≡ at = omega arith in rw (e, le-ltb at (length ls) h) (n_is ∙ sym (position-or_len v ls)))
+    (cases_lt at (length ls))
+
+-- a line that is there occurs
 occurrences_at : (ls : List ℕ) (i : ℕ) → i < length ls → 1 ≤ occurrences (get_or ls i 0) ls
 occurrences_at [] i h = absurd (omega arith)
 occurrences_at (x ∷ ls) zero h = rw (eq-eqb x x refl) (omega arith)
 occurrences_at (x ∷ ls) (suc i) h = let u = occurrences_at ls i (omega arith) in omega arith
 
--- a line that occurrences once has its place as its position
+-- a line that occurs once has its place as its position
 position_at : (ls : List ℕ) (i : ℕ) → i < length ls → occurrences (get_or ls i 0) ls ≡ 1 → position (get_or ls i 0) ls ≡ i
 position_at [] i h e = absurd (omega arith)
 position_at (x ∷ ls) zero h e = rw (eq-eqb x x refl)
@@ -212,37 +242,49 @@ reversed_once ls once = (
       (position_at ls v (omega arith) (once.1 (get_or ls v 0) l)) (omega arith) (omega arith),
 )
 
--- what the loop over the bytes gives
-pub map_shows : (ls xs ys : List ℕ) → EachOnce ls → ys ≡ map (crossed ls) xs → Shows ls xs ys
-map_shows ls xs ys once e = record {
-  crosses = e;
+-- what the loop over the bytes gives, which has come to n
+pub shows_all : (ls xs ys : List ℕ) (n : ℕ) → EachOnce ls → length ys ≡ length xs → length xs ≤ n → ((k : ℕ) → k < n → get_or ys k 0 ≡ crossed ls (get_or xs k 0)) → Shows ls xs ys
+shows_all ls xs ys n once long all shown = record {
+  crosses = same_lists _ _ (long ∙ sym (length-map xs (crossed ls)))
+      (λ k d h. get_or_default ys k d 0 h ∙ shown k (omega arith) ∙ sym (get_or-map (crossed ls) xs k 0 d (omega arith)));
   bits = λ k i h l.
-      ap (λ zs. bit i (get_or zs k 0)) e
-      ∙ ap (bit i) (get_or-map (crossed ls) xs k 0 0 h)
-      ∙ bit_crossed ls (get_or xs k 0) i (let f : length ls ≡ 8 = once.0 in omega arith);
+      ap (bit i) (shown k (omega arith)) ∙ bit_crossed ls (get_or xs k 0) i (let f : length ls ≡ 8 = once.0 in omega arith);
 }
 
--- a turn of the loop that puts the bits together, from the last line to the first
-pub crossed_drop_lt : (ls : List ℕ) (b i : ℕ) → length ls ≡ 8 → 1 ≤ i → crossed (drop i ls) b < 128
-crossed_drop_lt ls b i e h =
-    let l : crossed (drop i ls) b < 2 ^ length (drop i ls) = crossed_lt (drop i ls) b in
-    let d : length (drop i ls) ≡ length ls - i = length-drop i ls in
-    let p : 2 ^ length (drop i ls) ≤ 2 ^ 7 = pow_mono {i = length (drop i ls)} {j = 7} (omega arith) in
-    omega arith
+-- one more line, gone through from the last to the first: the bits so far leave room for its own
+pub record NextBit (x out : ℕ) : Type 0 where
+  pub names : x < 8
+  pub room : out < 128
 
-pub crossed_drop_more : (ls : List ℕ) (b i : ℕ) → i < length ls → crossed (drop i ls) b ≡ bit (get_or ls i 0) b + 2 * crossed (drop (i + 1) ls) b
-crossed_drop_more ls b i h = at_drop_more (λ xs. crossed xs b) ls i 0 h
+pub next_bit : (ls : List ℕ) (b : ℕ) (xs : List (Bor ℕ)) (x : Bor ℕ) (out : ℕ) → EachOnce ls → (length xs < length (reverse ls)) × (x.now ≡ get_or (reverse ls) (length xs) x.now) →
+    out ≡ crossed (reverse (map (λ y. y.now) xs)) b → NextBit x.now out
+next_bit ls b xs x out once turn e =
+    let k = length xs in
+    let l : length ls ≡ 8 = once.0 in
+    let h : k < length ls = rw (length-reverse ls) at turn.0 in
+    let seen : List ℕ = map (λ (y : Bor ℕ). y.now) xs in
+    let n : length (reverse seen) ≡ k = length-reverse seen ∙ length-map xs (λ (y : Bor ℕ). y.now) in
+    let small : crossed (reverse seen) b < 2 ^ length (reverse seen) = crossed_lt (reverse seen) b in
+    let most : 2 ^ length (reverse seen) ≤ 2 ^ 7 = pow_mono {i = length (reverse seen)} {j = 7} (omega arith) in
+    let is : x.now ≡ get_or ls (length ls - 1 - k) 0 = turn.1 ∙ get_or-reverse ls k x.now h ∙ get_or_default ls (length ls - 1 - k) x.now 0 (omega arith) in
+    record { names = rw is (line_lt ls (length ls - 1 - k) once (omega arith)); room = omega arith }
 
-pub back_all : (ls back : List ℕ) → length back ≡ 8 → ((k : ℕ) → k < 8 → get_or back k 0 ≡ position k ls) → back ≡ reversed ls
-unfolding reversed
-back_all ls back e at = fill_by_all (λ j. position j ls) back 8 0 e at
+pub bits_more : (ls : List ℕ) (b l out : ℕ) → out ≡ crossed (reverse ls) b → 2 * out + bit l b ≡ crossed (reverse (ls ++ l ∷ [])) b
+bits_more ls b l out e = let more : 2 * out + bit l b ≡ crossed (l ∷ reverse ls) b = rw (← e) (omega arith) in more ∙ ap (λ xs. crossed xs b) (sym (reverse-append ls (l ∷ [])))
 
-pub position_fits : (ls : List ℕ) (j : ℕ) → EachOnce ls → j < 8 → position j ls < 8
-position_fits ls j once h =
-    let e : length ls ≡ 8 = once.0 in
-    let o : occurrences j ls ≡ 1 = once.1 j h in
-    let l : position j ls < length ls = position_lt j ls (omega arith) in
-    omega arith
+-- what a closure that changes nothing gave for each of 0 to 7
+module _ {F : Type 0} (g : Mut F (ℕ × Unit {0}) ℕ) (h : ℕ → ℕ) (f : F) (calls : (x y : ℕ) (q : F) → Called g f (x, tt) y q → (q ≡ f) × (y ≡ h x)) where
+  mapped_at : (xs ys : List ℕ) (i n : ℕ) (p : F) → p ≡ f → MapsFrom g p xs ys i n → (k : ℕ) → i ≤ k → k < i + n → get_or ys k 0 ≡ h (get_or xs k 0)
+  mapped_at xs ys i zero p e m k low high = absurd (omega arith)
+  mapped_at xs ys i (suc n) p e (q, x, y, from, to, call, rest) k low high =
+      let u = calls x y q (subst (λ v. Called g v (x, tt) y q) e call) in
+      ⊎_elim
+      (λ (s : k ≡ i). rw s (to.1 0 ∙ u.1 ∙ ap h (sym (from.1 0))))
+      (λ (s : k ≡ i → ⊥). mapped_at xs ys (i + 1) n q u.0 rest k (omega arith) (omega arith))
+      (cases_eq k i)
+
+  pub mapped_all : (ys : List ℕ) → IsMapOf g f (range_with_len 0 8) ys 8 → ys ≡ map h (range_with_len 0 8)
+  mapped_all ys m = fill_by_all h ys 8 0 m.long (λ k l. mapped_at (range_with_len 0 8) ys 0 8 f refl m.each k (omega arith) (omega arith) ∙ ap h (get_or-range_with_len 0 8 k 0 l ∙ zero-add k))
 
 -- lists of bytes through a wiring and back
 undone : (f g : ℕ → ℕ) → ((b : ℕ) → b < 256 → f (g b) ≡ b) → (bs : List ℕ) → ((i : ℕ) → get_or bs i 0 < 256) → map f (map g bs) ≡ bs

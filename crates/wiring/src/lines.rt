@@ -6,40 +6,19 @@ ghost use Rattle.wiring.specs.Lines.{EachOnce, occurrences, position};
 fn occurrences(lines: &[u8], v: u8) -> usize
     ensures { result ≡ occurrences v lines.now }
 {
-    let mut n: usize = 0;
-    for x in lines {
-        if *x == v {
-            n += 1;
-        }
-    }
-    n
+    lines.iter().filter(|line| **line == v).count()
 }
 
-// Whether there are eight lines that name each of 0 to 7 once.
-pub(crate) fn name_each_once(lines: &[u8]) -> bool
+// Whether the lines name each of 0 to 7 once.
+pub(crate) fn name_each_once(lines: &[u8; 8]) -> bool
     ensures { MatchBool result (EachOnce lines.now) (EachOnce lines.now → ⊥) }
 {
-    if lines.len() != 8 {
-        return false;
-    }
-    for v in 0..8u8 {
-        if occurrences(lines, v) != 1 {
-            return false;
-        }
-    }
-    true
+    (0..8u8).all(|v| occurrences(lines, v) == 1)
 }
 
-// The line that names v first, or how many lines there are.
-pub(crate) fn position(lines: &[u8], v: u8) -> usize
+// The line that names v first, or 8: a number and no Option, as the definition has it, since a wiring names each line.
+pub(crate) fn position(lines: &[u8; 8], v: u8) -> u8
     ensures { result ≡ position v lines.now }
 {
-    let mut at: usize = 0;
-    for x in lines {
-        if *x == v {
-            return at;
-        }
-        at += 1;
-    }
-    at
+    lines.iter().position(|line| *line == v).unwrap_or(8) as u8
 }

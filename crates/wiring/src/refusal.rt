@@ -2,12 +2,14 @@
 ghost use Rattle.std.specs.Prelude.{◌≡◌, Some};
 ghost use Rattle.wiring.specs.Refusals.{number, words};
 
+use std::error::Error;
 use std::fmt;
 
+// Each refusal has its number.
 #[derive(Clone, Copy, PartialEq, Eq, Debug)]
 pub enum WiringRefusal {
     // not each of 0 to 7 is named once
-    NotOnce,
+    NotOnce = 7,
 }
 
 impl WiringRefusal {
@@ -15,9 +17,7 @@ impl WiringRefusal {
     pub fn number(self) -> u8
         ensures { result ≡ number self }
     {
-        match self {
-            WiringRefusal::NotOnce => 7,
-        }
+        self as u8
     }
 
     // The refusal in words.
@@ -30,6 +30,7 @@ impl WiringRefusal {
     }
 }
 
+// By hand: a derived Display promises nothing of what it prints.
 impl fmt::Display for WiringRefusal {
     ghost output = { λ refusal. Some (words refusal) };
 
@@ -37,3 +38,5 @@ impl fmt::Display for WiringRefusal {
         f.write_str(self.words())
     }
 }
+
+impl Error for WiringRefusal {}

@@ -11,9 +11,10 @@ impl<'a> FlashArray<'a> {
         ensures count { count_of result ≡ count_for sectors (length memory.old) }
         ensures state { state_of result ≡ new_state (take (128 * count_for sectors (length memory.old)) memory.old) }
     {
+        let fits = (256..=8192).contains(&sectors) && 128 * sectors as usize <= memory.len();
         FlashArray {
             memory,
-            sectors,
+            sectors: if fits { sectors } else { 0 },
             protected: false,
             low_locked: false,
             high_locked: false,
@@ -27,23 +28,21 @@ impl FlashArray<'_> {
         ensures value { result ≡ count_of self.now }
         ensures bound { (result ≤ 8192) × (128 * result ≤ length self.now.memory.now) }
     {
-        let n = self.sectors;
-        if n >= 256 && n <= 8192 && 128 * n as usize <= self.memory.len() {
-            n
-        } else {
-            0
-        }
+        self.sectors
+    }
+
+    // The bytes of the sectors.
+    fn bytes(&self) -> &[u8]
+        ensures { result.now ≡ (state_of self.now).bytes }
+    {
+        &self.memory[..128 * self.sectors() as usize]
     }
 
     // The byte at an address, 0 outside the array.
     pub fn byte_at(&self, address: u32) -> u8
         ensures { result ≡ slice_index (state_of self.now).bytes address }
     {
-        if address < 128 * self.sectors() {
-            self.memory[address as usize]
-        } else {
-            0
-        }
+        self.bytes().get(address as usize).copied().unwrap_or(0)
     }
 
     // Whether the lower boot block is locked.

@@ -22,10 +22,7 @@ impl<'a, B: Behaviour + Drop> Part<'a, B> {
             device,
             phase: Phase::Rest,
             period: OpenPeriod::new(),
-            last: Load {
-                address: 0,
-                byte: 0,
-            },
+            last: Load::default(),
             toggle,
             reads: 0,
             behaviour,

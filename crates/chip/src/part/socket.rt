@@ -5,7 +5,7 @@ ghost use Rattle.chip.specs.Meaning.{meant, Promised};
 ghost use Rattle.chip.specs.Lawful.{part_lawful};
 
 use super::Part;
-use crate::phase::{Event, Reply};
+use crate::phase::Event;
 use bus::identity::Identity;
 use bus::load::Load;
 use bus::refusal::BusRefusal;
@@ -29,27 +29,16 @@ impl<B: Behaviour + Drop> Socket for Part<'_, B> {
         self.array.sectors()
     }
 
-    fn load(&mut self, address: u32, byte: u8, gap: u16) -> Result<(), BusRefusal> {
-        if self.is_outside(address) {
-            return Err(BusRefusal::Outside);
-        }
-        let _ = self.step(Event::Gap(gap));
-        match self.step(Event::Load(Load { address, byte })) {
-            Reply::Refused(refusal) => Err(refusal),
-            Reply::Done => Ok(()),
-            Reply::Byte(_) => unreachable(),
-        }
+    fn load(&mut self, load: Load, gap: u16) -> Result<(), BusRefusal> {
+        self.reach(load.address, gap)?;
+        self.step(Event::Load(load))?;
+        Ok(())
     }
 
     fn read(&mut self, address: u32, gap: u16) -> Result<u8, BusRefusal> {
-        if self.is_outside(address) {
-            return Err(BusRefusal::Outside);
-        }
-        let _ = self.step(Event::Gap(gap));
-        match self.step(Event::Read(address)) {
-            Reply::Byte(byte) => Ok(byte),
-            Reply::Done | Reply::Refused(_) => unreachable(),
-        }
+        self.reach(address, gap)?;
+        let byte = self.step(Event::Read(address))?;
+        Ok(byte.unwrap())
     }
 
     fn wait(&mut self, gap: u16) {

@@ -15,11 +15,10 @@ impl<S: Store> Crossing<S> {
         Crossing { below, wiring }
     }
 
-    // The store below, as the calls left it.
+    // The store below, as the calls left it. Each layer has this line; a trait for it would be longer.
     pub fn into_below(self) -> S
         ensures { result ≡ self.below }
     {
-        let Crossing { below, .. } = self;
-        below
+        self.below
     }
 }

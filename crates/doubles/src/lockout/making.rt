@@ -14,11 +14,10 @@ impl<S: Store> Lockout<S> {
         Lockout { below, locked }
     }
 
-    // The store below, as the calls left it.
+    // The store below, as the calls left it. Each layer has this line; a trait for it would be longer.
     pub fn into_below(self) -> S
         ensures { result ≡ self.below }
     {
-        let Lockout { below, .. } = self;
-        below
+        self.below
     }
 }

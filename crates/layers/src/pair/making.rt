@@ -18,7 +18,6 @@ impl<F: Store, B: Store> Pair<F, B> {
     pub fn into_below(self) -> (F, B)
         ensures { (result.0 ≡ self.front) × (result.1 ≡ self.back) }
     {
-        let Pair { front, back } = self;
-        (front, back)
+        (self.front, self.back)
     }
 }

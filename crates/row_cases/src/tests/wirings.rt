@@ -1,5 +1,5 @@
 // Wirings that are taken and refused, and bytes through them.
-use std::process::Abort;
+use wiring::refusal::WiringRefusal;
 use wiring::wiring::Wiring;
 
 const CROSSED: [u8; 8] = [1, 0, 2, 3, 4, 5, 6, 7];
@@ -28,23 +28,22 @@ fn a_write_goes_through_the_reverse(rt: HostRuntime) {
     assert!(rt; bytes == [0x02]);
 }
 
-fn refused(rt: &impl Abort, wiring: &mut Wiring, lines: &[u8]) {
-    match wiring.set(lines) {
-        Ok(()) => assert!(rt; false),
-        Err(refusal) => assert_eq!(rt; refusal.number(), 7),
-    }
-    assert!(rt; *wiring.lines() == CROSSED);
-}
+const REFUSED: [&[u8]; 7] = [
+    &[7, 0, 2, 3, 4, 5, 6, 7],
+    &[8, 0, 2, 3, 4, 5, 6, 7],
+    &[255, 0, 2, 3, 4, 5, 6, 7],
+    &[0, 1, 2, 3, 4, 5, 6],
+    &[0, 1, 2, 3, 4, 5, 6, 7, 0],
+    &[0, 1, 2, 3, 4, 5, 6, 7, 8],
+    &[],
+];
 
 #[test]
 fn each_line_is_named_once(rt: HostRuntime) {
     let mut wiring = Wiring::straight();
     assert!(rt; wiring.set(&CROSSED).is_ok());
-    refused(&rt, &mut wiring, &[7, 0, 2, 3, 4, 5, 6, 7]);
-    refused(&rt, &mut wiring, &[8, 0, 2, 3, 4, 5, 6, 7]);
-    refused(&rt, &mut wiring, &[255, 0, 2, 3, 4, 5, 6, 7]);
-    refused(&rt, &mut wiring, &[0, 1, 2, 3, 4, 5, 6]);
-    refused(&rt, &mut wiring, &[0, 1, 2, 3, 4, 5, 6, 7, 0]);
-    refused(&rt, &mut wiring, &[0, 1, 2, 3, 4, 5, 6, 7, 8]);
-    refused(&rt, &mut wiring, &[]);
+    for lines in REFUSED {
+        assert_eq!(rt; wiring.set(lines).map_err(WiringRefusal::number), Err(7));
+        assert!(rt; *wiring.lines() == CROSSED);
+    }
 }

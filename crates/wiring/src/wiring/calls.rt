@@ -29,10 +29,11 @@ impl Wiring {
     pub fn set(&mut self, lines: &[u8]) -> Result<(), WiringRefusal>
         ensures { Rewires self.old.lines self.new.lines lines.now result }
     {
+        let lines = lines.as_array().ok_or(WiringRefusal::NotOnce)?;
         if !lines::name_each_once(lines) {
             return Err(WiringRefusal::NotOnce);
         }
-        self.lines.copy_from_slice(lines);
+        self.lines = *lines;
         Ok(())
     }
 
@@ -41,25 +42,25 @@ impl Wiring {
         ensures lines { result.lines ≡ reversed self.now.lines }
         ensures undone { (bs : List ℕ) → ((i : ℕ) → slice_index bs i < 256) → map (crossed self.now.lines) (map (crossed result.lines) bs) ≡ bs }
     {
-        let mut lines = [0; 8];
-        for j in 0..8u8 {
-            lines[j as usize] = lines::position(&self.lines, j) as u8;
+        Wiring {
+            lines: Wiring::straight()
+                .lines
+                .map(|line| lines::position(&self.lines, line)),
         }
-        Wiring { lines }
     }
 
     // The byte whose bit i is the bit of b that line i names.
     fn cross(&self, b: u8) -> u8
         ensures { result ≡ crossed self.now.lines b }
     {
-        let mut out: u8 = 0;
-        for i in (0..8usize).rev() {
-            out = 2 * out + (b >> self.lines[i]) % 2;
-        }
-        out
+        self.lines
+            .iter()
+            .rev()
+            .fold(0, |out, line| 2 * out + (b >> *line) % 2)
     }
 
-    fn cross_each(&self, bytes: &mut [u8])
+    // Turns each byte from below into the byte that shows.
+    pub fn show(&self, bytes: &mut [u8])
         ensures { Shows self.now.lines bytes.old bytes.new }
     {
         for b in bytes.iter_mut() {
@@ -67,18 +68,11 @@ impl Wiring {
         }
     }
 
-    // Turns each byte from below into the byte that shows.
-    pub fn show(&self, bytes: &mut [u8])
-        ensures { Shows self.now.lines bytes.old bytes.new }
-    {
-        self.cross_each(bytes);
-    }
-
     // Turns each byte into the one that has to lie below for it to show.
     pub fn lay(&self, bytes: &mut [u8])
         ensures lies { bytes.new ≡ map (crossed (reversed self.now.lines)) bytes.old }
         ensures back { map (crossed self.now.lines) bytes.new ≡ bytes.old }
     {
-        self.reversed().cross_each(bytes);
+        self.reversed().show(bytes);
     }
 }

@@ -1,14 +1,8 @@
-use Rattle.std.proofs.Common.{◌≡◌, length, vec_items, sym, refl, ◌∙◌, arith}
+use Rattle.std.proofs.Common.{◌≡◌, length, vec_items, sym, ◌∙◌, arith}
 use Rattle.std.proofs.lemmas.List.{take_all}
-use Rattle.bus.specs.History.{Run, history}
 use Rattle.bus.proofs.Bytes.{law_holds}
 use Rattle.bus.proofs.Histories.{run_more, kept_more}
 use Rattle.bus.proofs.replay.replay.Goals as goal
-
-pub loop-call-init : goal.loop-call-init
-loop-call-init g c =
-    let made = c.in_ok-answers.ensures in
-    (omega arith, made.len, made.capacity, refl, refl)
 
 pub loop-call-preserved : goal.loop-call-preserved
 loop-call-preserved g c =
@@ -26,17 +20,7 @@ loop-call-preserved g c =
       kept_more xs os _ i _ _ more same items g.S.Socket.promise _ c.loop-call.socket _ c.loop-call.invariant.4 c.make_call.ensures.own,
     )
 
-pub returns : goal.returns
-returns g c =
-    let m = g.S.Socket.meaning in
-    let xs = c.args.calls.now in
-    let v = c.loop-call.answers in
-    let whole = take_all c.loop-call.call-index xs c.loop-call-test.false in
-    let ran : Run (history xs (vec_items v)) (m c.args.socket.now) (m c.loop-call.socket) = rw whole at c.loop-call.invariant.3 in
-    record {
-      each = sym v.ok.0 ∙ (omega arith);
-      ran = ran;
-      own = rw whole at c.loop-call.invariant.4;
-      law = λ at_rest. law_holds _ _ _ at_rest (g.S.Socket.lawful c.args.socket.now).sized ran;
-      refused = tt;
-    }
+pub returns-clause-law : goal.returns-clause-law
+returns-clause-law g c =
+    let whole = take_all c.loop-call.call-index c.args.calls.now c.loop-call-test.false in
+    λ at_rest. law_holds _ _ _ at_rest (g.S.Socket.lawful c.args.socket.now).sized (rw whole at c.loop-call.invariant.3)

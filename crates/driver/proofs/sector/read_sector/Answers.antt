@@ -1,17 +1,14 @@
-use Rattle.std.proofs.Common.{drop, sym, ◌∙◌, arith}
-use Rattle.memory.specs.Memory.{row_of}
-use Rattle.memory.proofs.MemoryLaws.{as_bytes_front}
-use Rattle.driver.proofs.Storing.{back}
+use Rattle.std.proofs.Common.{rules, arith}
+use Rattle.driver.proofs.Fetching.{fetched_none, fetched_more, fetched_all}
 use Rattle.driver.proofs.sector.read_sector.Goals as goal
+
+pub loop-i-init : goal.loop-i-init
+loop-i-init g c = search (rules, fetched_none, g.S.Socket.lawful)
+
+pub loop-i-preserved : goal.loop-i-preserved
+loop-i-preserved g c = search (rules, fetched_more, g.S.Socket.lawful)
 
 pub returns : goal.returns
 returns g c =
-    let bytes = (g.S.Socket.meaning c.args.socket.now).settled.bytes in
-    let rest = drop 128 c.args.place.now in
-    let fills = c.copy_sector.ensures.fills in
-    let size = (g.S.Socket.lawful c.args.socket.now).sized in
-    record {
-      quiet = c.copy_sector.ensures.quiet;
-      shows = fills ∙ sym (as_bytes_front (row_of bytes c.args.sector) rest (λ i. rw fills at (c.type_inv.place i).fits));
-      back = back bytes c.copy_sector.new.place rest c.args.sector (omega (arith, c.requires.within)) fills;
-    }
+    let (quiet, fills, shows) = fetched_all _ _ c.args.sector c.loop-i.i c.args.page.now c.loop-i.page c.told-page (omega arith) c.loop-i.invariant in
+    record { quiet = quiet; fills = fills; shows = shows }

@@ -1,5 +1,6 @@
 use Rattle.std.proofs.Common.{vec_items}
-use Rattle.parts.proofs.Exactly.{exact_made, made_map}
+use Rattle.std.proofs.lemmas.Result.{IfOk-weaker}
+use Rattle.parts.proofs.Exactly.{exact_made}
 use Rattle.parts.proofs.run.run.Goals as goal
 
 pub returns : goal.returns
@@ -12,9 +13,9 @@ returns g c =
     let q = c.replay.new.socket in
     let told = exact_made b.style b.times vec_items r xs p q e.each e.own in
     record {
-      answers = made_map r _ _ (λ v t. t.0) told;
-      chip = made_map r _ _ (λ v t. t.1) told;
-      times = made_map r _ _ (λ v t. t.2) told;
+      answers = IfOk-weaker r _ _ (λ v t. t.0) told;
+      chip = IfOk-weaker r _ _ (λ v t. t.1) told;
+      times = IfOk-weaker r _ _ (λ v t. t.2) told;
       law = e.law;
       refused = e.refused;
     }

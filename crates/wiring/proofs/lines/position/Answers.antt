@@ -1,14 +1,13 @@
-use Rattle.std.proofs.Common.{arith}
-use Rattle.std.proofs.lemmas.List.{at_drop_all}
-use Rattle.wiring.specs.Lines.{position}
-use Rattle.wiring.proofs.LineLaws.{position_here, position_other}
+use Rattle.std.proofs.Common.{◌==◌, ◌∙◌, rules, arith}
+use Rattle.std.proofs.lemmas.Iterator.{YieldsList-from_slice}
+use Rattle.std.proofs.lemmas.Iterator.Search.{position_from_yields_List}
+use borrow.Author.Tests.{tests}
+use Rattle.wiring.proofs.LineLaws.{found_or}
 use Rattle.wiring.proofs.lines.position.Goals as goal
 
-pub returns-then-x-v : goal.returns-then-x-v
-returns-then-x-v c = let o = position_here c.args.v c.args.lines.now c.loop-x.x-index c.loop-x-test.true c.if-x-v.true in omega arith
-
-pub loop-x-preserved : goal.loop-x-preserved
-loop-x-preserved c = let o = position_other c.args.v c.args.lines.now c.loop-x.x-index c.loop-x-test.true c.if-x-v.false in (omega arith, omega arith)
-
 pub returns : goal.returns
-returns c = let e = at_drop_all (position c.args.v) c.args.lines.now c.loop-x.x-index c.loop-x-test.false in omega arith
+returns c =
+    let v = c.args.v in
+    let ls = c.args.lines.now in
+    let found = position_from_yields_List (λ x. x == v) _ _ c.position.result c.position.ensures.ran (YieldsList-from_slice ls cc) (λ x b q k. search (rules, tests)) in
+    c.unwrap_or.ensures ∙ found_or v ls c.position.result 8 (omega arith) found

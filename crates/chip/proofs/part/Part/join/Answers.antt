@@ -13,7 +13,4 @@ returns g c =
     let y = g.B.Behaviour.style in
     let grown = subst (λ (n : ℕ). period_of n c.extend.new.self ≡ extend_inside n (period_of n s.period) l) c.sectors-sectors.ensures.value c.extend.ensures
     ∙ cond-true _ _ _ (lt-ltb l.address (128 * count_of s) c.requires) in
-    record {
-      chip = ap (λ (p : Period). chip_with (record { sectors = count_of s; device = s.device; last = l; toggle = s.toggle; reads = s.reads }) (settle_by y (count_of s) (stored s) p) (opened (stored s) p 0)) grown;
-      behaviour = refl;
-    }
+    (ap (λ (p : Period). chip_with (record { sectors = count_of s; device = s.device; last = l; toggle = s.toggle; reads = s.reads }) (settle_by y (count_of s) (stored s) p) (opened (stored s) p 0)) grown, refl)

@@ -1,46 +1,42 @@
-use Rattle.std.proofs.Common.{◌*◌, Some, None, sym, ap, ◌∙◌}
-use Rattle.std.proofs.lemmas.Bool.{leb-false}
-use Rattle.bus.specs.declared.call.Answer.TheVariants as Answers
-use Rattle.bus.specs.Codes.{at}
-use Rattle.bus.specs.History.{load_answer}
-use Rattle.chip.specs.Meaning.{count_of, meant}
+use Rattle.std.proofs.Common.{rules, ◌≡◌, Some, None, Ok, Err, ◌∙◌, ap, sym}
+use Rattle.std.specs.Result.{result_err}
 use Rattle.bus.specs.Refusals.{load_refusal}
-use Rattle.chip.proofs.Chosen.{loads_by, own_load, refused_is, done_is, no_byte}
+use Rattle.bus.specs.History.{load_answer}
+use Rattle.chip.specs.Meaning.{meant}
+use Rattle.chip.proofs.Chosen.{loads_by, own_load, refused_by}
 use Rattle.chip.proofs.part.socket.PartSocket.load.Goals as goal
 
-pub returns-in-Refused : goal.returns-in-Refused
-returns-in-Refused g c =
+pub returns-in_err-step : goal.returns-in_err-step
+returns-in_err-step g c =
     let b = g.B.Behaviour in
     let s = c.args.self.now in
-    let inside = leb-false (128 * count_of s) c.args.address (sym c.is_outside.ensures ∙ c.if-is_outside.false) in
-    let m = c.step.new.self in
-    let d = c.step-2.new.self in
-    let l = at c.args.address c.args.byte in
-    let e = c.step.ensures in
-    let f = c.in-Refused.ensures in
-    let o = refused_is (load_refusal (meant b.style m).phase l) c.in-Refused.refusal f.1 in
+    let m = c.reach.new.self in
+    let d = c.step.new.self in
+    let l = c.args.load in
+    let e = c.in_ok-reach.ensures in
+    let f = c.step.ensures in
+    let w : c.step.result ≡ Err c.in_err-step.field-0.0 = c.in_err-step.was in
+    let r : result_err c.from_residual-in_err-step.result ≡ Some c.in_err-step.field-0.0 = search rules in
+    let o : result_err c.from_residual-in_err-step.result ≡ load_refusal (meant b.style m).phase l = r ∙ ap result_err (sym w) ∙ refused_by _ c.step.result f.1 in
     record {
-      moves = loads_by b.style (b.times s.behaviour) (b.timely s.behaviour) c.args.gap (meant b.style s) (meant b.style m) e.0 l (meant b.style d) (Some c.in-Refused.refusal) inside f.0 o;
-      own = own_load b.style (b.times s.behaviour) (b.timely s.behaviour) c.args.gap (meant b.style s) (meant b.style m) e.0 (b.times m.behaviour) (b.times d.behaviour) e.2 f.2
-          l (meant b.style d) (Answers.Refused c.in-Refused.refusal) inside f.0 (ap load_answer o);
+      moves = loads_by b.style (b.times s.behaviour) (b.timely s.behaviour) c.args.gap (meant b.style s) (meant b.style m) e.1 l (meant b.style d) _ e.0 f.0 o;
+      own = own_load b.style (b.times s.behaviour) (b.timely s.behaviour) c.args.gap (meant b.style s) (meant b.style m) e.1 (b.times m.behaviour) (b.times d.behaviour) e.2 f.2
+          l (meant b.style d) _ e.0 f.0 (ap load_answer o);
     }
 
-pub returns-in-Done : goal.returns-in-Done
-returns-in-Done g c =
+pub returns : goal.returns
+returns g c =
     let b = g.B.Behaviour in
     let s = c.args.self.now in
-    let inside = leb-false (128 * count_of s) c.args.address (sym c.is_outside.ensures ∙ c.if-is_outside.false) in
-    let m = c.step.new.self in
-    let d = c.step-2.new.self in
-    let l = at c.args.address c.args.byte in
-    let e = c.step.ensures in
-    let f = c.in-Done.ensures in
-    let o = done_is (load_refusal (meant b.style m).phase l) f.1 in
+    let m = c.reach.new.self in
+    let d = c.step.new.self in
+    let l = c.args.load in
+    let e = c.in_ok-reach.ensures in
+    let f = c.step.ensures in
+    let w : c.step.result ≡ Ok c.in_ok-step.field-0 = c.in_ok-step.was in
+    let o : None ≡ load_refusal (meant b.style m).phase l = ap result_err (sym w) ∙ refused_by _ c.step.result f.1 in
     record {
-      moves = loads_by b.style (b.times s.behaviour) (b.timely s.behaviour) c.args.gap (meant b.style s) (meant b.style m) e.0 l (meant b.style d) None inside f.0 o;
-      own = own_load b.style (b.times s.behaviour) (b.timely s.behaviour) c.args.gap (meant b.style s) (meant b.style m) e.0 (b.times m.behaviour) (b.times d.behaviour) e.2 f.2
-          l (meant b.style d) Answers.Loaded inside f.0 (ap load_answer o);
+      moves = loads_by b.style (b.times s.behaviour) (b.timely s.behaviour) c.args.gap (meant b.style s) (meant b.style m) e.1 l (meant b.style d) _ e.0 f.0 o;
+      own = own_load b.style (b.times s.behaviour) (b.timely s.behaviour) c.args.gap (meant b.style s) (meant b.style m) e.1 (b.times m.behaviour) (b.times d.behaviour) e.2 f.2
+          l (meant b.style d) _ e.0 f.0 (ap load_answer o);
     }
-
-pub unreachable-requires : goal.unreachable-requires
-unreachable-requires g c = no_byte (load_refusal (meant g.B.Behaviour.style c.step.new.self).phase (at c.args.address c.args.byte)) _ c.in-Byte.ensures.1

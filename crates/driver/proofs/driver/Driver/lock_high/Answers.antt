@@ -1,0 +1,6 @@
+use Rattle.std.proofs.Common.{rules}
+use Rattle.driver.specs.Settled.{after_lock_high}
+use Rattle.driver.proofs.driver.Driver.lock_high.Goals as goal
+
+pub returns : goal.returns
+returns g c = c.command.ensures after_lock_high (search rules)
