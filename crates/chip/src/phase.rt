@@ -2,8 +2,8 @@
 use bus::load::Load;
 
 // At rest, in an open period of this age, or so far into a cycle of this time. An age past 150 means 150, and a cycle time means the
-// nearest of 1 to 10,000, which the elapsed time stays below: no ghost field bounds them (tried: a type argument that holds a
-// `&mut`, as a part does, may hold no struct with a ghost field).
+// nearest of 1 to 10,000, which the elapsed time stays below: no ghost field bounds them (tried: where a part,
+// which holds a `&mut`, is a type argument, no struct in it without a borrow of its own may have one).
 #[derive(Clone, Copy)]
 pub enum Phase {
     Rest,

@@ -16,7 +16,8 @@ pub enum Target {
 
 // Which sector the data loads named, and the last load of each of its bytes: beside the target and not in it, since a target is handed
 // out by value, and the page would be copied with it or lent wherever it is matched. A sector past those of the part means none: no
-// ghost field rules it out (tried: a type argument that holds a `&mut`, as a part does, may hold no struct with a ghost field).
+// ghost field rules it out (tried: where a part, which holds a `&mut`, is a type argument, no struct in it without a borrow of its own
+// may have one).
 #[derive(Drop)]
 pub(crate) struct PageBuffer {
     target: Target,
