@@ -3,7 +3,7 @@
 
     python3 tools/places.py [FOLDER]      a checkout; this one, if none is given
 
-It finds places by their text, and judges none: the page says of each what became of it.
+It finds places by their text, and judges none: that page does.
 """
 import collections
 import pathlib

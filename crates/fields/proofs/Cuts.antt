@@ -23,7 +23,7 @@ grown_first : (b : ℕ) (ps : List (List ℕ)) → onto_first b ps ≡ grown b p
 grown_first b [] = refl
 grown_first b (p ∷ ps) = refl
 
-parts_split : (s : List ℕ) → slice_split (λ b. eqb b 32) s ≡ parts s
+pub parts_split : (s : List ℕ) → slice_split (λ b. eqb b 32) s ≡ parts s
 parts_split = same_from_clauses (slice_split (λ b. eqb b 32)) parts (λ b r. cond (eqb b 32) ([] ∷ r) (grown b r)) refl (λ b s. ap (cond (eqb b 32) ([] ∷ slice_split (λ c. eqb c 32) s)) (grown_first b (slice_split (λ c. eqb c 32) s))) (λ _ _. refl)
 
 -- the parts of a line come, one after another, from the calls that cut it

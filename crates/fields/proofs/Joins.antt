@@ -1,41 +1,18 @@
 -- The parts of a line, and the line that they make again.
-use Rattle.std.proofs.Common.{◌≡◌, ℕ, true, false, cond, ◌&&◌, eqb, List, [], ◌∷◌, ◌++◌, length, sym, refl, ap, ◌∙◌, inl, inr}
-use Rattle.std.proofs.lemmas.Bool.{ne_eqb, eqb-true, eqb-false, cases_Bool, lt-ltb, ltb-true, and_parts, and_from, false≢true}
+use Rattle.std.proofs.Common.{◌≡◌, ℕ, true, ◌&&◌, eqb, List, [], ◌∷◌, ◌++◌, length, sym, refl, ap, ◌∙◌, inl, inr}
+use Rattle.std.proofs.lemmas.Bool.{ne_eqb, eqb-false, cases_Bool, lt-ltb, ltb-true, and_parts, and_from, false≢true}
+use Rattle.std.specs.List.{join_with_byte}
+use Rattle.std.proofs.lemmas.List.Splits.{join_with_byte-slice_split}
 use Rattle.fields.specs.Splitting.{parts, grown, filled, are_four, NoSpace, FourFields}
-
--- parts with single spaces between
-abbrev pub spaced : List (List ℕ) → List ℕ
-spaced [] = []
-spaced (p ∷ []) = p
-spaced (p ∷ (q ∷ ps)) = p ++ (32 ∷ spaced (q ∷ ps))
+use Rattle.fields.proofs.Cuts.{parts_split}
 
 abbrev pub AllNoSpace : List (List ℕ) → Type 0
 AllNoSpace [] = Unit {0}
 AllNoSpace (p ∷ ps) = NoSpace p × AllNoSpace ps
 
-spaced_grown : (b : ℕ) (ps : List (List ℕ)) → spaced (grown b ps) ≡ b ∷ spaced ps
-spaced_grown b [] = refl
-spaced_grown b (p ∷ []) = refl
-spaced_grown b (p ∷ (q ∷ ps)) = refl
-
-space_grown : (b : ℕ) (ps : List (List ℕ)) → spaced ([] ∷ grown b ps) ≡ 32 ∷ spaced (grown b ps)
-space_grown b [] = refl
-space_grown b (p ∷ ps) = refl
-
--- a line has at least one part
-space_parts : (s : List ℕ) → spaced ([] ∷ parts s) ≡ 32 ∷ spaced (parts s)
-space_parts [] = refl
-space_parts (b ∷ s) =
-    elim (eqb b 32) as (λ t. spaced ([] ∷ cond t ([] ∷ parts s) (grown b (parts s))) ≡ 32 ∷ spaced (cond t ([] ∷ parts s) (grown b (parts s))))
-    [ true ↦ refl | false ↦ space_grown b (parts s) ]
-
-pub spaced_parts : (s : List ℕ) → spaced (parts s) ≡ s
-spaced_parts [] = refl
-spaced_parts (b ∷ s) =
-    elim (cases_Bool (eqb b 32)) [
-      | inl y ↦ rw y (space_parts s ∙ (let e = eqb-true b 32 y in let h = spaced_parts s in cc))
-      | inr n ↦ rw n (spaced_grown b (parts s) ∙ ap (λ (x : List ℕ). b ∷ x) (spaced_parts s))
-    ]
+-- parts with single spaces between are the line again
+rejoined : (s : List ℕ) → join_with_byte 32 (parts s) ≡ s
+rejoined s = ap (join_with_byte 32) (sym (parts_split s)) ∙ join_with_byte-slice_split 32 s
 
 grown_spaceless : (b : ℕ) (ps : List (List ℕ)) → (b ≡ 32 → ⊥) → AllNoSpace ps → AllNoSpace (grown b ps)
 grown_spaceless b [] ne h = ((ne, tt), tt)
@@ -50,7 +27,7 @@ spaceless_parts (b ∷ s) =
     ]
 
 -- four filled parts are the four fields of their line
-four_of : (s : List ℕ) (ps : List (List ℕ)) → spaced ps ≡ s → AllNoSpace ps → are_four ps ≡ true
+four_of : (s : List ℕ) (ps : List (List ℕ)) → join_with_byte 32 ps ≡ s → AllNoSpace ps → are_four ps ≡ true
     → (a : List ℕ) × (b : List ℕ) × (c : List ℕ) × (d : List ℕ) × FourFields s a b c d × (ps ≡ a ∷ (b ∷ (c ∷ (d ∷ []))))
 four_of s [] w n h = absurd (false≢true h)
 four_of s (a ∷ []) w n h = absurd (false≢true h)
@@ -77,7 +54,7 @@ four_of s (a ∷ (b ∷ (c ∷ (d ∷ (e ∷ ps))))) w n h = absurd (false≢tru
 
 pub four_fields : (s : List ℕ) → are_four (parts s) ≡ true
     → (a : List ℕ) × (b : List ℕ) × (c : List ℕ) × (d : List ℕ) × FourFields s a b c d × (parts s ≡ a ∷ (b ∷ (c ∷ (d ∷ []))))
-four_fields s h = four_of s (parts s) (spaced_parts s) (spaceless_parts s) h
+four_fields s h = four_of s (parts s) (rejoined s) (spaceless_parts s) h
 
 -- a field with a space after it
 parts_front : (w s : List ℕ) → NoSpace w → parts (w ++ (32 ∷ s)) ≡ w ∷ parts s

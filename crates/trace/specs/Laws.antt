@@ -1,5 +1,6 @@
 -- What a line says, in words of its fields.
-use Rattle.std.specs.Prelude.{◌≡◌, ℕ, Bool, true, false, ◌⊎◌, List, [], ◌∷◌, ◌++◌, Some, Ok, Err, Result}
+use Rattle.std.specs.Prelude.{◌≡◌, ℕ, Bool, true, false, ◌⊎◌, List, [], ◌∷◌, Some, Ok, Err, Result, map}
+use Rattle.std.specs.List.{join_with_byte}
 use Rattle.trace.specs.Names.{name_of}
 use Rattle.trace.specs.Naming.{column_order, EachOnce}
 use Rattle.fields.specs.Splitting.{is_text, FourFields}
@@ -23,9 +24,7 @@ Unsplit s = (is_text s ≡ true) × ((a b c d : List ℕ) → FourFields s a b c
 
 -- the names of columns with single spaces between
 abbrev pub names_text : List Column → List ℕ
-names_text [] = []
-names_text (k ∷ []) = name_of k
-names_text (k ∷ (l ∷ ks)) = name_of k ++ (32 ∷ names_text (l ∷ ks))
+names_text ks = join_with_byte 32 (map name_of ks)
 
 -- the line is the names of these columns, each column once
 abbrev pub NamesAre : List ℕ → Columns → Type 0

@@ -14,7 +14,7 @@ use trace::Cycle;
 pub const LONGEST: usize = 1 + 1 + GAP_DIGITS + 1 + ADDRESS_DIGITS + 1 + DATA_DIGITS;
 
 // The line of a cycle.
-// No `Display` and `write!`: nothing says that a write to a text with room succeeds, and this cannot fail.
+// No `Display` and `write!` (tried): nothing says that a write to a text with room succeeds, and this cannot fail.
 pub(crate) fn line_of(cycle: Cycle) -> ArrayString<LONGEST>
     ensures text { result.bytes ≡ text_of cycle }
     ensures reads { too_high cycle ≡ false → value_line standard_order (text_of cycle) ≡ Ok cycle }
