@@ -5,7 +5,7 @@ use lib.Seq.{paste}
 use Rattle.std.proofs.lemmas.List.{take_all, drop-drop, length-take, length-drop, length-append, same_lists, places}
 use Rattle.memory.specs.Memory.{row_of, memory_rows}
 use Rattle.rows.specs.Rows.{Stored}
-use Rattle.memory.proofs.MemoryLaws.{row_stored}
+use Rattle.memory.proofs.MemoryLaws.{row_put_stored}
 use Rattle.bus.specs.Lawful.{Lawful}
 use Rattle.bus.specs.Meaning.{Chip, State}
 use Rattle.bus.specs.Outcomes.{is_locked, with_sector}
@@ -18,7 +18,7 @@ pub stored : (n : ℕ) (s : State) (r : ℕ) (b : List ℕ) → length s.bytes �
     Stored (sector_rows n s) (sector_rows n (after_write s r b)) r b
 stored n s r b z k h small =
     let same : put_mid (128 * r) 128 s.bytes b ≡ with_sector s.bytes r b = rw (take_all 128 b (omega arith), ← drop-drop 128 (128 * r) s.bytes, append_assoc) in
-    let put = row_stored s.bytes b b r 128 (omega arith) refl refl k (λ i. record { fits = small i }) in
+    let put = row_put_stored s.bytes b b r 128 (omega arith) refl refl k (λ i. record { fits = small i }) in
     let rows = subst (λ (ys : List ℕ). Stored (memory_rows s.bytes) (memory_rows ys) r b) same put in
     record {
       count = refl;

@@ -7,7 +7,7 @@ use Rattle.memory.specs.Memory.{row_of, as_bytes, memory_rows, rows_in, RowSet}
 use Rattle.rows.specs.Rows.{Stored}
 
 -- bytes in front of a list are as they are
-as_bytes_front : (xs d : List ℕ) → ((i : ℕ) → get_or (xs ++ d) i 0 < 256) → as_bytes xs ++ d ≡ xs ++ d
+pub as_bytes_front : (xs d : List ℕ) → ((i : ℕ) → get_or (xs ++ d) i 0 < 256) → as_bytes xs ++ d ≡ xs ++ d
 as_bytes_front [] d small = refl
 as_bytes_front (x ∷ xs) d small =
     let h = small 0 in
@@ -57,12 +57,9 @@ row_other xs ys b row r s n =
     ∙ s.outside (128 * r + j) d (λ p q. n (omega arith))
     ∙ sym (get_or-take 128 _ j d m' ∙ get_or-drop (128 * r) _ j d))
 
-pub row_stored : (xs b last : List ℕ) (row k : ℕ) → 128 * row + 128 ≤ length xs → k ≡ 128 → last ≡ b → length b ≡ 128 → ((i : ℕ) → Fits w8 (get_or b i 0)) →
-    Stored (memory_rows xs) (memory_rows (put_mid (128 * row) k xs last)) row b
-row_stored xs b last row k f e l w fits =
-    let ys = put_mid (128 * row) k xs last in
-    let s = row_set xs b last row k f e l w in
-    let here : as_bytes (row_of ys row) ≡ b = ap as_bytes s.here ∙ as_bytes_same b (λ i. (fits i).fits) in
+pub row_stored : (xs ys b : List ℕ) (row : ℕ) → RowSet xs ys row b → ((i : ℕ) → get_or b i 0 < 256) → Stored (memory_rows xs) (memory_rows ys) row b
+row_stored xs ys b row s small =
+    let here : as_bytes (row_of ys row) ≡ b = ap as_bytes s.here ∙ as_bytes_same b small in
     record {
       count = ap rows_in s.long;
       here = ap (λ v. record { shown = v; locked = mathlib.Core.Bool.false; home = row; laid = λ x. x }) here;
@@ -70,3 +67,9 @@ row_stored xs b last row k f e l w fits =
       landed = here;
       apart = λ a n. ap as_bytes (row_other xs ys b row a s n);
     }
+
+-- the same of a page that was copied over a row
+pub row_put_stored : (xs b last : List ℕ) (row k : ℕ) → 128 * row + 128 ≤ length xs → k ≡ 128 → last ≡ b → length b ≡ 128 → ((i : ℕ) → Fits w8 (get_or b i 0)) →
+    Stored (memory_rows xs) (memory_rows (put_mid (128 * row) k xs last)) row b
+row_put_stored xs b last row k f e l w fits =
+    row_stored xs (put_mid (128 * row) k xs last) b row (row_set xs b last row k f e l w) (λ i. (fits i).fits)

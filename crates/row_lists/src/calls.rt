@@ -1,5 +1,5 @@
 // Row calls and their answers as values, so that a list of them can be made on any store.
-use crate::runs::Runs;
+use crate::bytes::Bytes;
 use rows::refusal::RowRefusal;
 use std::fmt;
 
@@ -32,8 +32,8 @@ impl fmt::Display for RowCall {
                 write!(f, "read row {row} into {room} bytes")
             }
             RowCall::Write { row, bytes } => {
-                let runs = Runs(bytes);
-                write!(f, "write {runs} to row {row}")
+                let bytes = Bytes(bytes);
+                write!(f, "write {bytes} to row {row}")
             }
             RowCall::AskLock { row } => write!(f, "is row {row} locked"),
         }
@@ -45,12 +45,12 @@ impl fmt::Display for RowAnswer {
         match self {
             RowAnswer::Count(rows) => write!(f, "{rows}"),
             RowAnswer::Place { place, result } => {
-                let runs = Runs(place);
+                let place = Bytes(place);
                 if let Err(refusal) = result {
                     refuse(*refusal, f)?;
                     write!(f, "; the place holds ")?;
                 }
-                write!(f, "{runs}")
+                write!(f, "{place}")
             }
             RowAnswer::Done(Ok(())) => write!(f, "accepted"),
             RowAnswer::Lock(Ok(true)) => write!(f, "locked"),

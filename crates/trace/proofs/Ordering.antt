@@ -1,11 +1,10 @@
 -- The columns that a line names.
-use Rattle.std.proofs.Common.{◌≡◌, subst, ℕ, ◌+◌, ◌<◌, Bool, true, false, cond, eqb, List, [], ◌∷◌, length, filter, Some, None, Option, sym, refl, ap, ◌∙◌, inl, inr, arith}
-use Rattle.std.proofs.lemmas.Bool.{eqb-true, cases_Bool, and_parts, false≢true, cond-false}
+use Rattle.std.proofs.Common.{◌≡◌, subst, ℕ, ◌+◌, ◌<◌, Bool, true, false, cond, eqb, List, [], ◌∷◌, length, Some, None, Option, sym, refl, ap, ◌∙◌, inl, inr, arith}
+use Rattle.std.proofs.lemmas.Bool.{eqb-true, cases_Bool, and_parts, and_from, false≢true, eq-eqb, cond-true, cond-false}
 use Rattle.std.proofs.lemmas.Option.{none-some, same_Some}
 use Rattle.trace.specs.Names.{name_of, same_text, column_named, same_column, times, only_once}
-use Rattle.std.proofs.Math.Bool.{Bool-set}
 use Rattle.trace.specs.Naming.{column_order, EachOnce}
-use Rattle.trace.specs.Lines.{ordered_by, ordered}
+use Rattle.trace.specs.Lines.{ordered}
 use Rattle.trace.specs.declared.column.Columns.{Columns}
 use Rattle.trace.specs.declared.column.Column.{Column}
 use Rattle.trace.specs.declared.column.Column.TheVariants.{Op, Gap, Addr, Data}
@@ -46,14 +45,6 @@ named_text t k =
     is : (c : Column) → same_text t (name_of c) ≡ true → c ≡ k → t ≡ name_of k
     is c y e = same_text_lem t (name_of c) y ∙ ap name_of e
 
-pub times_filter : (k : Column) (ks : List Column) → length (filter (λ c. same_column c k) ks) ≡ times k ks
-times_filter k [] = refl
-times_filter k (c ∷ ks) =
-    elim (cases_Bool (same_column c k)) [
-      | inl y ↦ rw y (let e = times_filter k ks in omega arith)
-      | inr n ↦ rw n (let e = times_filter k ks in omega arith)
-    ]
-
 -- the four columns stand as often as there are columns
 pub times_all : (ks : List Column) → times Op ks + times Gap ks + times Addr ks + times Data ks ≡ length ks
 times_all [] = refl
@@ -68,6 +59,12 @@ once cs h Op = eqb-true (times Op cs) 1 (and_parts (eqb (times Op cs) 1) _ h).0
 once cs h Gap = eqb-true (times Gap cs) 1 (and_parts (eqb (times Gap cs) 1) _ (and_parts (eqb (times Op cs) 1) _ h).1).0
 once cs h Addr = eqb-true (times Addr cs) 1 (and_parts (eqb (times Addr cs) 1) _ (and_parts (eqb (times Gap cs) 1) _ (and_parts (eqb (times Op cs) 1) _ h).1).1).0
 once cs h Data = eqb-true (times Data cs) 1 (and_parts (eqb (times Addr cs) 1) (eqb (times Data cs) 1) (and_parts (eqb (times Gap cs) 1) _ (and_parts (eqb (times Op cs) 1) _ h).1).1).1
+
+pub once_back : (cs : List Column) → ((k : Column) → times k cs ≡ 1) → only_once cs ≡ true
+once_back cs h =
+    and_from (eqb (times Op cs) 1) _ (eq-eqb (times Op cs) 1 (h Op))
+    (and_from (eqb (times Gap cs) 1) _ (eq-eqb (times Gap cs) 1 (h Gap))
+    (and_from (eqb (times Addr cs) 1) _ (eq-eqb (times Addr cs) 1 (h Addr)) (eq-eqb (times Data cs) 1 (h Data))))
 
 abbrev pub AllTrue : (Column → Bool) → List Column → Type 0
 AllTrue f [] = Unit {0}
@@ -84,20 +81,17 @@ holds_of f (c ∷ cs) k a h =
 
 -- two orders of the same columns are one
 pub columns_same : (cs ds : Columns) → column_order cs ≡ column_order ds → cs ≡ ds
-columns_same cs ds e =
-    subst (λ (ks : List Column). (p : only_once ks ≡ true) → cs ≡ record { order = ks; each_once = p }) e
-    (λ p. ap (λ (q : only_once (column_order cs) ≡ true). record { order = column_order cs; each_once = q }) (Bool-set _ _ cs.each_once p)) ds.each_once
+columns_same cs ds e = ap (λ (ks : List Column). record { order = ks }) e
 
-pub ordered_is : (cs : Columns) (t : Bool) (e : only_once (column_order cs) ≡ t) → ordered_by (column_order cs) t e ≡ Some cs
-ordered_is cs true e = ap Some (columns_same (record { order = column_order cs; each_once = e }) cs refl)
-ordered_is cs false e = absurd (false≢true (sym e ∙ cs.each_once))
+-- columns that each stand once are an order
+pub ordered_is : (cs : Columns) → EachOnce cs → ordered (column_order cs) ≡ Some cs
+ordered_is cs h = cond-true _ _ _ (once_back (column_order cs) h)
 
-pub ordered_from : (ks : List Column) (t : Bool) (e : only_once ks ≡ t) (cs : Columns) → ordered_by ks t e ≡ Some cs → ks ≡ column_order cs
-ordered_from ks true e cs h = ap column_order (same_Some (record { order = ks; each_once = e }) cs h)
-ordered_from ks false e cs h = absurd (none-some cs h)
-
-pub each_once : (cs : Columns) → EachOnce cs
-each_once cs = once (column_order cs) cs.each_once
-
-pub order_made : (cs : Columns) (o : Option Columns) → ordered (column_order cs) ≡ o → Some cs ≡ o
-order_made cs o h = sym (ordered_is cs (only_once (column_order cs)) refl) ∙ h
+-- an order that is made is of the columns given, each once
+pub ordered_from : (ks : List Column) (cs : Columns) → ordered ks ≡ Some cs → (ks ≡ column_order cs) × EachOnce cs
+ordered_from ks cs h =
+    elim (cases_Bool (only_once ks)) [
+      | inl y ↦ let e : record { order = ks } ≡ cs = same_Some (record { order = ks }) cs (sym (cond-true _ _ _ y) ∙ h) in
+          (ap column_order e, subst EachOnce e (once ks y))
+      | inr n ↦ absurd (none-some cs (sym (cond-false _ _ _ n) ∙ h))
+    ]

@@ -2,8 +2,8 @@
 use Rattle.std.proofs.Common.{◌≡◌, ℕ, Bool, true, false, cond, ◌&&◌, List, [], ◌∷◌, length, is_some, Some, None, Ok, Err, Option, Result, sym, refl, ap, ◌∙◌, subst, inl, inr, arith}
 use Rattle.std.proofs.lemmas.Bool.{cases_Bool, cond-true, cond-false, and_from, both_ways, true≢false}
 use Rattle.std.proofs.lemmas.Option.{none-some, same_Some}
-use Rattle.trace.specs.Names.{name_of, column_named, only_once}
-use Rattle.trace.specs.Naming.{column_order}
+use Rattle.trace.specs.Names.{name_of, column_named}
+use Rattle.trace.specs.Naming.{column_order, EachOnce}
 use Rattle.fields.specs.Splitting.{is_text, parts, are_four, joined, IsField, FourFields}
 use Rattle.fields.specs.Forms.{op_in, gap_in, address_in, data_in, is_dash}
 use Rattle.trace.specs.Lines.{Texts, leftmost_of, by_column, load, read, cycle_of, cycle_in, addr_formed, data_formed, formed, named, or_refuse, line_fault, unless_fault, judged, value_line, ordered, order_of, order_named, names_line}
@@ -18,7 +18,7 @@ use Rattle.trace.specs.declared.refusal.LineRefusal.TheVariants.{Bytes, Fields, 
 use Rattle.fields.specs.declared.values.Op.{Op as OpKind}
 use Rattle.fields.specs.declared.values.Op.TheVariants.{Load as L, Read as R, Wait as W}
 use Rattle.fields.proofs.Joins.{four_fields, parts_four, are_four_lem}
-use Rattle.trace.proofs.Ordering.{named_back, named_text, times_all, each_once, ordered_is, ordered_from, AllTrue, holds_of}
+use Rattle.trace.proofs.Ordering.{named_back, named_text, times_all, ordered_is, ordered_from, AllTrue, holds_of}
 
 -- ---- the values of a cycle
 
@@ -99,8 +99,8 @@ leftmost_among f (c ∷ (d ∷ ks)) h =
     ]
 
 -- where no cycle is told, the column that is named is bad, and the leftmost
-pub leftmost : (cs : Columns) (t : Texts) → cycle_in t ≡ None → Leftmost (column_order cs) (formed t) (named cs (formed t))
-leftmost cs t h = leftmost_among (formed t) (column_order cs) (λ a. all_formed t (λ k. let n = each_once cs k in holds_of (formed t) (column_order cs) k a (omega arith)) h)
+pub leftmost : (cs : Columns) (t : Texts) → EachOnce cs → cycle_in t ≡ None → Leftmost (column_order cs) (formed t) (named cs (formed t))
+leftmost cs t o h = leftmost_among (formed t) (column_order cs) (λ a. all_formed t (λ k. let n = o k in holds_of (formed t) (column_order cs) k a (omega arith)) h)
 
 -- ---- the fault of a line as text
 
@@ -123,20 +123,20 @@ unsplit s h n = (h, λ a b c d f. both_ways (are_four (parts s)) n (are_four_lem
 
 -- ---- a line of values
 
-judged_says : (cs : Columns) (s : List ℕ) (t : Texts) (o : Option Cycle) → cycle_in t ≡ o → is_text s ≡ true
+judged_says : (cs : Columns) (s : List ℕ) (t : Texts) (o : Option Cycle) → EachOnce cs → cycle_in t ≡ o → is_text s ≡ true
     → (a b c d : List ℕ) → FourFields s a b c d → t ≡ by_column cs (a ∷ (b ∷ (c ∷ (d ∷ [])))) → SaysCycle cs s (or_refuse o (Value (named cs (formed t))))
 unfolding SaysCycle
-judged_says cs s t (Some x) e h a b c d f q = (h, a, b, c, d, f, subst (λ (z : Texts). Tells z x) q (cycle_tells t x e))
-judged_says cs s t None e h a b c d f q =
-    (h, a, b, c, d, f, subst (λ (z : Texts). Leftmost (column_order cs) (formed z) (named cs (formed t))) q (leftmost cs t e))
+judged_says cs s t (Some x) u e h a b c d f q = (h, a, b, c, d, f, subst (λ (z : Texts). Tells z x) q (cycle_tells t x e))
+judged_says cs s t None u e h a b c d f q =
+    (h, a, b, c, d, f, subst (λ (z : Texts). Leftmost (column_order cs) (formed z) (named cs (formed t))) q (leftmost cs t u e))
 
-pub says_cycle : (cs : Columns) (s : List ℕ) (r : Result Cycle LineRefusal) → r ≡ value_line cs s → SaysCycle cs s r
+pub says_cycle : (cs : Columns) (s : List ℕ) (r : Result Cycle LineRefusal) → r ≡ value_line cs s → EachOnce cs → SaysCycle cs s r
 unfolding SaysCycle value_line
-says_cycle cs s r e =
+says_cycle cs s r e u =
     subst (λ (z : Result Cycle LineRefusal). SaysCycle cs s z) (sym e)
     (by_fault s (λ o. SaysCycle cs s (unless_fault o (judged cs (by_column cs (parts s))))) (λ n. n) (unsplit s)
     (λ h y. let p = four_fields s y in
-    judged_says cs s (by_column cs (parts s)) (cycle_in (by_column cs (parts s))) refl h p.0 p.1 p.2 p.3 p.4 (ap (by_column cs) p.5)))
+    judged_says cs s (by_column cs (parts s)) (cycle_in (by_column cs (parts s))) u refl h p.0 p.1 p.2 p.3 p.4 (ap (by_column cs) p.5)))
 
 -- fields that tell no cycle
 pub told_none : (cs : Columns) (s : List ℕ) (t : Texts) → line_fault s ≡ None → t ≡ by_column cs (parts s) → cycle_in t ≡ None → Err (Value (named cs (formed t))) ≡ value_line cs s
@@ -155,17 +155,17 @@ reads_as cs s a b c d x h f t =
 -- ---- a line of names
 
 -- the names that an order comes from
-abbrev OrderFrom : Option Column → Option Column → Option Column → Option Column → List Column → Type 0
-OrderFrom w x y z ks = (a : Column) × (b : Column) × (c : Column) × (d : Column) × (ks ≡ a ∷ (b ∷ (c ∷ (d ∷ [])))) × (w ≡ Some a) × (x ≡ Some b) × (y ≡ Some c) × (z ≡ Some d)
+abbrev OrderFrom : Option Column → Option Column → Option Column → Option Column → Columns → Type 0
+OrderFrom w x y z cs = (a : Column) × (b : Column) × (c : Column) × (d : Column) × (column_order cs ≡ a ∷ (b ∷ (c ∷ (d ∷ [])))) × (w ≡ Some a) × (x ≡ Some b) × (y ≡ Some c) × (z ≡ Some d) × EachOnce cs
 
-order_from : (w x y z : Option Column) (cs : Columns) → order_of w x y z ≡ Some cs → OrderFrom w x y z (column_order cs)
+order_from : (w x y z : Option Column) (cs : Columns) → order_of w x y z ≡ Some cs → OrderFrom w x y z cs
 order_from None x y z cs h = absurd (none-some cs h)
 order_from (Some a) None y z cs h = absurd (none-some cs h)
 order_from (Some a) (Some b) None z cs h = absurd (none-some cs h)
 order_from (Some a) (Some b) (Some c) None cs h = absurd (none-some cs h)
 order_from (Some a) (Some b) (Some c) (Some d) cs h =
-    let ks : List Column = a ∷ (b ∷ (c ∷ (d ∷ []))) in
-    (a, b, c, d, sym (ordered_from ks (only_once ks) refl cs h), refl, refl, refl, refl)
+    let o = ordered_from (a ∷ (b ∷ (c ∷ (d ∷ [])))) cs h in
+    (a, b, c, d, sym o.0, refl, refl, refl, refl, o.1)
 
 joined_same : (a b c d p q r t : List ℕ) → a ≡ p → b ≡ q → c ≡ r → d ≡ t → joined a b c d ≡ joined p q r t
 joined_same a b c d p q r t ea eb ec ed =
@@ -176,7 +176,7 @@ ordered_says s a b c d cs f h =
     let o = order_from (column_named a) (column_named b) (column_named c) (column_named d) cs h in (
       f.line ∙ joined_same a b c d (name_of o.0) (name_of o.1) (name_of o.2) (name_of o.3)
           (named_text a o.0 o.5) (named_text b o.1 o.6) (named_text c o.2 o.7) (named_text d o.3 o.8) ∙ ap names_text (sym o.4),
-      each_once cs,
+      o.9,
     )
 
 name_field : (k : Column) → IsField (name_of k)
@@ -205,7 +205,7 @@ four_names s (a ∷ (b ∷ (c ∷ (d ∷ [])))) l h =
 pub names_order : (s : List ℕ) (cs : Columns) → NamesAre s cs → order_named (parts s) ≡ Some cs
 names_order s cs h =
     let n : length (column_order cs) ≡ 4 = omega (arith, times_all (column_order cs), h.1 Op, h.1 Gap, h.1 Addr, h.1 Data) in
-    four_names s (column_order cs) n h.0 ∙ ordered_is cs (only_once (column_order cs)) refl
+    four_names s (column_order cs) n h.0 ∙ ordered_is cs h.1
 
 order_says : (s : List ℕ) (o : Option Columns) → order_named (parts s) ≡ o → is_text s ≡ true → (a b c d : List ℕ) → FourFields s a b c d → parts s ≡ a ∷ (b ∷ (c ∷ (d ∷ []))) → SaysOrder s (or_refuse o Names)
 unfolding SaysOrder

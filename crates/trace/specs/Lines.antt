@@ -1,5 +1,5 @@
 -- What a line says: the columns' order, or a cycle, or a refusal.
-use Rattle.std.specs.Prelude.{◌≡◌, ℕ, Bool, true, false, refl, cond, ◌&&◌, List, [], ◌∷◌, map, is_some, Some, None, Ok, Err, Option, Result}
+use Rattle.std.specs.Prelude.{◌≡◌, ℕ, Bool, true, cond, ◌&&◌, List, [], ◌∷◌, map, is_some, Some, None, Ok, Err, Option, Result}
 use Rattle.std.specs.Borrow.{Bor}
 use Rattle.trace.specs.Names.{column_named, only_once}
 use Rattle.trace.specs.Naming.{column_order}
@@ -32,12 +32,8 @@ unless_fault (Some e) r = Err e
 -- ---- a line of names
 
 -- the order of four columns that each stand once
-abbrev pub ordered_by : (ks : List Column) (t : Bool) → only_once ks ≡ t → Option Columns
-ordered_by ks true e = Some (record { order = ks; each_once = e })
-ordered_by ks false e = None
-
 abbrev pub ordered : List Column → Option Columns
-ordered ks = ordered_by ks (only_once ks) refl
+ordered ks = cond (only_once ks) (Some (record { order = ks })) None
 
 abbrev pub order_of : Option Column → Option Column → Option Column → Option Column → Option Columns
 order_of None b c d = None

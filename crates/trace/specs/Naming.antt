@@ -1,5 +1,5 @@
 -- The order of the columns.
-use Rattle.std.specs.Prelude.{◌≡◌, List, [], ◌∷◌, refl}
+use Rattle.std.specs.Prelude.{◌≡◌, List, [], ◌∷◌}
 use Rattle.trace.specs.Names.{times}
 use Rattle.trace.specs.declared.column.Column.{Column}
 use Rattle.trace.specs.declared.column.Column.TheVariants.{Op, Gap, Addr, Data}
@@ -15,4 +15,4 @@ EachOnce cs = (k : Column) → times k (column_order cs) ≡ 1
 
 -- the order in which cycles are written
 abbrev pub standard_order : Columns
-standard_order = record { order = Op ∷ (Gap ∷ (Addr ∷ (Data ∷ []))); each_once = refl }
+standard_order = record { order = Op ∷ (Gap ∷ (Addr ∷ (Data ∷ []))) }

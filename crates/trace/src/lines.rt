@@ -1,4 +1,5 @@
 ghost use Rattle.std.specs.Prelude.{◌≡◌};
+ghost use Rattle.trace.specs.Naming.{EachOnce};
 ghost use Rattle.trace.specs.Lines.{FieldsOf, names_line, value_line};
 ghost use Rattle.trace.specs.Laws.{SaysOrder, SaysCycle};
 
@@ -32,7 +33,7 @@ impl Cycle {
     // The cycle that a line of values gives under these columns: refused by 11, 12 or 14.
     pub fn from_line(columns: Columns, line: &[u8]) -> Result<Cycle, LineRefusal>
         ensures value { result ≡ value_line columns line.now }
-        ensures says { SaysCycle columns line.now result }
+        ensures says { EachOnce columns → SaysCycle columns line.now result }
     {
         let row = Row::new(columns, fields_of(line)?);
         // No `ok_or_else`: tried, and what its closure returns was not proved.

@@ -1,4 +1,4 @@
-ghost use Rattle.std.specs.Prelude.{◌≡◌};
+ghost use Rattle.std.specs.Prelude.{◌≡◌, not};
 ghost use Rattle.trace.specs.Lines.{field_texts, row_texts, field_of, placed, by_column, load_of, read_of, wait_of, cycle_in, formed, named};
 
 use super::{Column, Columns, Cycle};
@@ -116,6 +116,7 @@ impl<'a> Row<'a> {
     }
 
     // The column to name of a row that has no cycle: the leftmost bad one.
+    // The test has a clause of its own: a wrong one is refused by what it means, whatever its form.
     pub(crate) fn bad_column(self, columns: Columns) -> Column
         ensures { result ≡ named columns (formed (row_texts self.entry)) }
     {
@@ -124,7 +125,11 @@ impl<'a> Row<'a> {
             .order
             .iter()
             .copied()
-            .find(|column| !self.has_form(*column))
+            .find(
+                |column|
+                    ensures { result ≡ not (formed (row_texts self.entry) column.now) }
+                { !self.has_form(*column) },
+            )
             .unwrap_or(last)
     }
 }

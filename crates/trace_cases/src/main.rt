@@ -130,3 +130,30 @@ fn main(rt: HostRuntime) -> io::Result<()> {
     run_cases(&rt)?;
     run_writes(&rt)
 }
+
+#[cfg(test)]
+mod tests {
+    use super::*;
+
+    // Columns beside lent memory, as a report keeps them.
+    #[derive(Drop)]
+    struct Kept<'a> {
+        columns: Columns,
+        places: &'a mut [u8],
+    }
+
+    // Proved only where `Columns` has no ghost field.
+    fn keep(kept: Kept<'_>) -> Option<Kept<'_>> {
+        Some(kept)
+    }
+
+    #[test]
+    fn columns_stand_beside_lent_memory(rt: HostRuntime) {
+        let mut place = PLACE;
+        let kept = keep(Kept {
+            columns: Columns::standard(),
+            places: &mut place,
+        });
+        assert!(rt; kept.is_some());
+    }
+}

@@ -4,9 +4,9 @@ use Rattle.std.proofs.lemmas.List.Sums.{prefix_len-le-length}
 use native.Mathlib.Nat.{pow-succ', div-div-eq-div-mul}
 use Rattle.std.specs.Array.{MapsFrom, IsMapOf}
 use Rattle.std.specs.Fn.{Called}
-use Rattle.std.specs.List.{count_by, position_or_len, list_all, range_with_len}
+use Rattle.std.specs.List.{position_or_len, list_all, range_with_len}
 use denote.Param.Members.{Mut}
-use Rattle.std.proofs.lemmas.List.Recursion.{is_count_by, is_position_or_len}
+use Rattle.std.proofs.lemmas.List.Recursion.{is_position_or_len}
 use Rattle.std.specs.Bool.{MatchBool}
 use Rattle.std.specs.Option.{unwrap_or}
 use Rattle.std.proofs.lemmas.List.Sums.{AllPass-from_list_all, list_all-from_AllPass}
@@ -23,9 +23,6 @@ one x v = cond (eqb x v) 1 0
 add_cond : (b : Bool) (n : ℕ) → cond b 1 0 + n ≡ cond b (1 + n) n
 add_cond true n = refl
 add_cond false n = zero-add n
-
-pub occurrences-count_by : (v : ℕ) (ls : List ℕ) → occurrences v ls ≡ count_by (λ x. eqb x v) ls
-occurrences-count_by v ls = is_count_by (occurrences v) (λ x. eqb x v) refl (λ x xs. add_cond (eqb x v) (occurrences v xs)) ls
 
 position-or_len : (v : ℕ) (ls : List ℕ) → position v ls ≡ position_or_len (λ x. eqb x v) ls
 position-or_len v ls = is_position_or_len (position v) (λ x. eqb x v) refl (λ x xs. refl) ls

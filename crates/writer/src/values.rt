@@ -8,13 +8,13 @@ use trace::Cycle;
 // The highest address that the digits of a line can write.
 const ADDRESS_TOP: u32 = (1 << (4 * ADDRESS_DIGITS)) - 1;
 
-pub(crate) fn letter(cycle: Cycle) -> char
+pub(crate) fn letter(cycle: Cycle) -> u8
     ensures { result ≡ letter_of cycle }
 {
     match cycle {
-        Cycle::Load { .. } => 'L',
-        Cycle::Read { .. } => 'R',
-        Cycle::Wait { .. } => 'W',
+        Cycle::Load { .. } => b'L',
+        Cycle::Read { .. } => b'R',
+        Cycle::Wait { .. } => b'W',
     }
 }
 

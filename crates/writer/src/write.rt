@@ -1,22 +1,12 @@
-ghost use Rattle.std.specs.Prelude.{◌≡◌, ◌≤◌, length, Ok};
+ghost use Rattle.std.specs.Prelude.{◌≡◌, Ok};
 ghost use Rattle.trace.specs.Naming.{standard_order};
 ghost use Rattle.trace.specs.Lines.{value_line};
-ghost use Rattle.writer.specs.Writing.{text_of, Fronts, Wrote, ReadsBack, RoundTrip};
+ghost use Rattle.writer.specs.Writing.{text_of, Wrote, ReadsBack, RoundTrip};
 
 use super::WriteRefusal;
-use super::line::{LONGEST, line_of};
+use super::line::{LONGEST, put_line};
 use super::values::is_too_high;
 use trace::{Columns, Cycle};
-
-// Copies a text to the front of a place.
-fn copy(text: &[u8], place: &mut [u8]) -> usize
-    requires { length text.now ≤ length place.old }
-    ensures { Fronts place.old text.now result place.new }
-{
-    let len = text.len();
-    place[0..len].copy_from_slice(text);
-    len
-}
 
 // Writes the line of a cycle to the front of a place, and answers the line's length.
 pub fn write_cycle(cycle: Cycle, place: &mut [u8]) -> Result<usize, WriteRefusal>
@@ -29,7 +19,7 @@ pub fn write_cycle(cycle: Cycle, place: &mut [u8]) -> Result<usize, WriteRefusal
     if place.len() < LONGEST {
         return Err(WriteRefusal::Place);
     }
-    Ok(copy(line_of(cycle).as_str().as_bytes(), place))
+    Ok(put_line(cycle, place))
 }
 
 // Writes a cycle into a place, and reads it back from there.

@@ -17,7 +17,7 @@ fn rows_in(bytes: usize) -> usize
 }
 
 // Copies a page over a row of the memory.
-#[tactic(auto, using(crate::proofs::MemoryLaws::row_set, crate::proofs::MemoryLaws::row_stored))]
+#[tactic(auto, using(crate::proofs::MemoryLaws::row_set, crate::proofs::MemoryLaws::row_put_stored))]
 fn store_row(memory: &mut [u8], row: usize, page: &[u8; ROW_BYTES])
     requires { 128 * row + 128 ≤ length memory.old }
     ensures set { RowSet memory.old memory.new row page.now }

@@ -1,36 +1,24 @@
-use Rattle.std.proofs.Common.{ltb, [], ◌∷◌, length, None, refl, sym, ap, ◌∙◌, rules, tests}
-use Rattle.std.proofs.lemmas.Iterator.{YieldsList-from_slice}
-use Rattle.std.proofs.lemmas.Iterator.Search.{all_from_yields_List}
-use Rattle.std.proofs.lemmas.Bool.{false≢true}
-use Rattle.fields.specs.Splitting.{parts, are_four}
-use Rattle.fields.proofs.Cuts.{parts_end, parts_more, all_filled, too_many, split_told}
+use Rattle.std.proofs.Common.{[], ◌∷◌, refl, arith, rules, tests}
+use Rattle.fields.proofs.Cuts.{no_field, told}
 use Rattle.fields.proofs.line.split.Goals as goal
-use Rattle.fields.proofs.line.split.Goals.{then-is_none, else-is_none}
 
-pub returns-in_err-next-2 : goal.returns-in_err-next-2
-returns-in_err-next-2 c =
-    let e = parts_end c.split-parts.result c.args.line.now (c.in_ok-next.field-0 ∷ []) _ _ None refl (c.next.new.self, c.in_ok-next.ensures.steps, refl) c.in_err-next-2.ensures.steps c.split-parts.ensures.rest c.split-parts.ensures.done c.split-parts.ensures.closure (λ x b q k. search (rules, tests)) in
-    rw (c.from_residual-in_err-next-2.ensures, e) refl
+pub returns-in_err-first : goal.returns-in_err-first
+returns-in_err-first c =
+    rw c.from_residual.ensures (no_field c.split-parts.result _ _ c.args.line.now [] c.next.result refl c.next.ensures.steps c.split-parts.ensures.rest c.split-parts.ensures.done c.split-parts.ensures.closure (λ x b q k. search (rules, tests)) (omega arith) c.in_err-first.ensures)
 
-pub returns-in_err-next-3 : goal.returns-in_err-next-3
-returns-in_err-next-3 c =
-    let e = parts_end c.split-parts.result c.args.line.now (c.in_ok-next.field-0 ∷ (c.in_ok-next-2.field-0 ∷ [])) _ _ None refl (c.next.new.self, c.in_ok-next.ensures.steps, (c.next-2.new.self, c.in_ok-next-2.ensures.steps, refl)) c.in_err-next-3.ensures.steps c.split-parts.ensures.rest c.split-parts.ensures.done c.split-parts.ensures.closure (λ x b q k. search (rules, tests)) in
-    rw (c.from_residual-in_err-next-3.ensures, e) refl
+pub returns-in_err-second : goal.returns-in_err-second
+returns-in_err-second c =
+    rw c.from_residual-in_err-second.ensures (no_field c.split-parts.result _ _ c.args.line.now (c.in_ok-first.first ∷ []) c.next-2.result (c.next.new.self, rw c.in_ok-first.ensures.0 at c.next.ensures.steps, refl) c.next-2.ensures.steps c.split-parts.ensures.rest c.split-parts.ensures.done c.split-parts.ensures.closure (λ x b q k. search (rules, tests)) (omega arith) c.in_err-second.ensures)
 
-pub returns-in_err-next-4 : goal.returns-in_err-next-4
-returns-in_err-next-4 c =
-    let e = parts_end c.split-parts.result c.args.line.now (c.in_ok-next.field-0 ∷ (c.in_ok-next-2.field-0 ∷ (c.in_ok-next-3.field-0 ∷ []))) _ _ None refl (c.next.new.self, c.in_ok-next.ensures.steps, (c.next-2.new.self, c.in_ok-next-2.ensures.steps, (c.next-3.new.self, c.in_ok-next-3.ensures.steps, refl))) c.in_err-next-4.ensures.steps c.split-parts.ensures.rest c.split-parts.ensures.done c.split-parts.ensures.closure (λ x b q k. search (rules, tests)) in
-    rw (c.from_residual-in_err-next-4.ensures, e) refl
+pub returns-in_err-third : goal.returns-in_err-third
+returns-in_err-third c =
+    rw c.from_residual-in_err-third.ensures (no_field c.split-parts.result _ _ c.args.line.now (c.in_ok-first.first ∷ (c.in_ok-second.second ∷ [])) c.next-3.result (c.next.new.self, rw c.in_ok-first.ensures.0 at c.next.ensures.steps, (c.next-2.new.self, rw c.in_ok-second.ensures.0 at c.next-2.ensures.steps, refl)) c.next-3.ensures.steps c.split-parts.ensures.rest c.split-parts.ensures.done c.split-parts.ensures.closure (λ x b q k. search (rules, tests)) (omega arith) c.in_err-third.ensures)
+
+pub returns-in_err-fourth : goal.returns-in_err-fourth
+returns-in_err-fourth c =
+    rw c.from_residual-in_err-fourth.ensures (no_field c.split-parts.result _ _ c.args.line.now (c.in_ok-first.first ∷ (c.in_ok-second.second ∷ (c.in_ok-third.third ∷ []))) c.next-4.result (c.next.new.self, rw c.in_ok-first.ensures.0 at c.next.ensures.steps, (c.next-2.new.self, rw c.in_ok-second.ensures.0 at c.next-2.ensures.steps, (c.next-3.new.self, rw c.in_ok-third.ensures.0 at c.next-3.ensures.steps, refl))) c.next-4.ensures.steps c.split-parts.ensures.rest c.split-parts.ensures.done c.split-parts.ensures.closure (λ x b q k. search (rules, tests)) (omega arith) c.in_err-fourth.ensures)
 
 pub returns : goal.returns
 returns c =
-    elim c.if-is_none.branch [
-      | then-is_none w ↦
-          let e = parts_end c.split-parts.result c.args.line.now (c.in_ok-next.field-0 ∷ (c.in_ok-next-2.field-0 ∷ (c.in_ok-next-3.field-0 ∷ (c.in_ok-next-4.field-0 ∷ [])))) _ _ c.next-5.result w.if-is_none.ensures (c.next.new.self, c.in_ok-next.ensures.steps, (c.next-2.new.self, c.in_ok-next-2.ensures.steps, (c.next-3.new.self, c.in_ok-next-3.ensures.steps, (c.next-4.new.self, c.in_ok-next-4.ensures.steps, refl)))) c.next-5.ensures.steps c.split-parts.ensures.rest c.split-parts.ensures.done c.split-parts.ensures.closure (λ x b q k. search (rules, tests)) in
-          let f = all_from_yields_List (λ p. ltb 0 (length p.now)) _ _ _ w.all-are_four.ensures.ran (YieldsList-from_slice (c.in_ok-next.field-0 ∷ (c.in_ok-next-2.field-0 ∷ (c.in_ok-next-3.field-0 ∷ (c.in_ok-next-4.field-0 ∷ [])))) w.iter.ensures.rest) (λ x b q k. search (rules, tests)) in
-          rw (c.then_some.ensures, w.are_four-is, f) (split_told _ _ (parts c.args.line.now) (ap are_four e ∙ all_filled c.in_ok-next.field-0.now c.in_ok-next-2.field-0.now c.in_ok-next-3.field-0.now c.in_ok-next-4.field-0.now) (λ t. e))
-      | else-is_none w ↦
-          let e = too_many (parts c.args.line.now) (parts_more c.split-parts.result c.args.line.now (c.in_ok-next.field-0 ∷ (c.in_ok-next-2.field-0 ∷ (c.in_ok-next-3.field-0 ∷ (c.in_ok-next-4.field-0 ∷ [])))) _ _ c.next-5.result w.if-is_none.ensures (c.next.new.self, c.in_ok-next.ensures.steps, (c.next-2.new.self, c.in_ok-next-2.ensures.steps, (c.next-3.new.self, c.in_ok-next-3.ensures.steps, (c.next-4.new.self, c.in_ok-next-4.ensures.steps, refl)))) c.next-5.ensures.steps c.split-parts.ensures.rest c.split-parts.ensures.done c.split-parts.ensures.closure (λ x b q k. search (rules, tests))) in
-          let n = w.are_four-is ∙ w.if-is_none.false in
-          rw c.then_some.ensures (split_told _ _ (parts c.args.line.now) (e ∙ sym n) (λ t. absurd (false≢true (sym n ∙ t))))
-    ]
+    rw c.then_some.ensures (told c.split-parts.result _ _ c.args.line.now (c.in_ok-first.first ∷ (c.in_ok-second.second ∷ (c.in_ok-third.third ∷ (c.in_ok-fourth.fourth ∷ [])))) c.next-5.result (c.next.new.self, rw c.in_ok-first.ensures.0 at c.next.ensures.steps, (c.next-2.new.self, rw c.in_ok-second.ensures.0 at c.next-2.ensures.steps, (c.next-3.new.self, rw c.in_ok-third.ensures.0 at c.next-3.ensures.steps, (c.next-4.new.self, rw c.in_ok-fourth.ensures.0 at c.next-4.ensures.steps, refl)))) c.next-5.ensures.steps c.split-parts.ensures.rest c.split-parts.ensures.done c.split-parts.ensures.closure (λ x b q k. search (rules, tests)) _ _ c.is_none.ensures refl (omega arith)
+    (rw (c.in_ok-first.ensures.1, c.in_ok-second.ensures.1, c.in_ok-third.ensures.1, c.in_ok-fourth.ensures.1) refl))

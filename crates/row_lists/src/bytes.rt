@@ -1,11 +1,11 @@
-// How bytes are told.
+// Bytes as a support engineer reads them.
 use std::fmt;
 
 // Equal neighbours are told together: `128 x 21, 2 x AA`.
 #[derive(Clone, Copy)]
-pub(crate) struct Runs<'a>(pub(crate) &'a [u8]);
+pub struct Bytes<'a>(pub &'a [u8]);
 
-impl fmt::Display for Runs<'_> {
+impl fmt::Display for Bytes<'_> {
     fn fmt<W: fmt::Write>(&self, f: &mut fmt::Formatter<W>) -> fmt::Result {
         if self.0.is_empty() {
             return write!(f, "0 x 00");
