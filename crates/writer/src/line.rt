@@ -87,10 +87,9 @@ fn put_hex(place: &mut [u8], at: usize, digits: usize, number: u32) -> usize
     ensures end { result ≡ at + digits }
     ensures text { (p w : List ℕ) → Fronts p w at place.old → Fronts p (w ++ hex_text digits number) result place.new }
 {
-    let mut end = at;
+    let end = at + digits;
     for digit in (0..digits).rev() {
-        place[end] = hex_digit((number >> (4 * digit)) % 16);
-        end += 1;
+        place[end - 1 - digit] = hex_digit((number >> (4 * digit)) % 16);
     }
     end
 }
