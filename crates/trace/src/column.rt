@@ -68,7 +68,7 @@ fn has_each_once(order: [Column; 4]) -> bool
 }
 
 // How often the column stands among these: of columns, as the wirings count bytes. A loop and no chain (tried): `filter` and `count` took
-// three times as long.
+// twice as long.
 fn times(column: Column, order: [Column; 4]) -> usize
     ensures { result ≡ times column order }
 {

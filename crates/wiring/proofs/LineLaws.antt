@@ -19,11 +19,7 @@ use Rattle.wiring.specs.Lines.{occurrences, EachOnce, bit, crossed, position, re
 abbrev one : ℕ → ℕ → ℕ
 one x v = cond (eqb x v) 1 0
 
--- the library's words for how often a line is named, and where
-add_cond : (b : Bool) (n : ℕ) → cond b 1 0 + n ≡ cond b (1 + n) n
-add_cond true n = refl
-add_cond false n = zero-add n
-
+-- the library's words for where a line is named
 position-or_len : (v : ℕ) (ls : List ℕ) → position v ls ≡ position_or_len (λ x. eqb x v) ls
 position-or_len v ls = is_position_or_len (position v) (λ x. eqb x v) refl (λ x xs. refl) ls
 

@@ -2,7 +2,7 @@
 ghost use Rattle.std.specs.Prelude.{◌≡◌, MatchBool};
 ghost use Rattle.wiring.specs.Lines.{EachOnce, occurrences, position};
 
-// How often the lines name v. A loop and no chain (tried): `filter` and `count` took six times as long.
+// How often the lines name v. A loop and no chain (tried): `filter` and `count` took some seven times as long.
 fn occurrences(lines: &[u8], v: u8) -> usize
     ensures { result ≡ occurrences v lines.now }
 {
